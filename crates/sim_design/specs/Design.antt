@@ -1,0 +1,65 @@
+use Rattle.std.specs.Prelude.{ℕ, ◌-◌, ◌^◌, List, [], ◌∷◌, ◌++◌, Bool, true, false, ◌&&◌, nat_lt, nat_le, nat_eq, length, IsTrue, codes, slice_get, Some, None, Option, if◌then◌else◌}
+use Rattle.std.specs.List.{list_all, list_any}
+use Rattle.sim_design.specs.declared.Instance.{Instance}
+use Rattle.sim_design.specs.declared.Net.{Net}
+use Rattle.sim_design.specs.declared.Process.{Process}
+use Rattle.sim_design.specs.declared.WaveformElement.{WaveformElement}
+use Rattle.sim_design.specs.declared.Design.{Design}
+
+-- TIME'HIGH, in femtoseconds
+abbrev pub time_high : ℕ
+time_high = 2 ^ 63 - 1
+
+-- the delays ascend strictly from `above` on
+abbrev pub ascends_above : ℕ → List WaveformElement → Bool
+ascends_above above [] = true
+ascends_above above (e ∷ es) = nat_lt above e.delay && ascends_above e.delay es
+
+-- a waveform has an element, and its delays ascend strictly (10.5.2.2)
+abbrev pub is_ascending : List WaveformElement → Bool
+is_ascending [] = false
+is_ascending (e ∷ es) = ascends_above e.delay es
+
+-- a waveform: its delays ascend strictly, and none of them passes TIME'HIGH
+abbrev pub is_waveform : List WaveformElement → Bool
+is_waveform es = is_ascending es && list_all (λ e. nat_le e.delay time_high) es
+
+-- one of the processes assigns to the net
+abbrev pub is_target : ℕ → List Process → Bool
+is_target net ps = list_any (λ p. nat_eq p.target net) ps
+
+-- no two processes assign to one net: BIT is unresolved, so a net has at most one source (14.7.3.2)
+abbrev pub have_own_targets : List Process → Bool
+have_own_targets [] = true
+have_own_targets (p ∷ ps) = if (is_target p.target ps) then false else have_own_targets ps
+
+-- the process names what is there, and assigns a waveform
+abbrev pub is_process : ℕ → ℕ → Process → Bool
+is_process instances nets p = nat_lt p.instance instances && nat_lt p.target nets && is_waveform p.waveform
+
+-- what holds of every elaborated design: places are in range, waveforms are waveforms, and an
+-- unresolved net has at most one source
+abbrev pub is_sound : Design → Bool
+is_sound d =
+    list_all (λ n. nat_lt n.instance (length d.instances)) d.nets
+    && list_all (is_process (length d.instances) (length d.nets)) d.processes
+    && have_own_targets d.processes
+
+abbrev pub IsSound : Design → Type 0
+IsSound d = IsTrue (is_sound d)
+
+-- the full name of an instance: `:` and its name, since the root is the only one
+abbrev pub name_under_root : Option Instance → List ℕ
+name_under_root (Some i) = codes ":" ++ i.name
+name_under_root None = []
+
+abbrev pub instance_name : Design → ℕ → List ℕ
+instance_name d i = name_under_root (slice_get d.instances i)
+
+-- the full name of a net: that of its instance, `:` and its own
+abbrev pub name_in : Design → Option Net → List ℕ
+name_in d (Some n) = instance_name d n.instance ++ (codes ":" ++ n.name)
+name_in d None = []
+
+abbrev pub net_name : Design → ℕ → List ℕ
+net_name d e = name_in d (slice_get d.nets e)

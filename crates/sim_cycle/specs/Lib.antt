@@ -1,0 +1,5 @@
+pub mod State
+pub mod Cycle
+pub mod Run
+pub mod World
+pub mod Laws

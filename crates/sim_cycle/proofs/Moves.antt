@@ -7,8 +7,9 @@ use Rattle.sim_journal.specs.declared.End.{End}
 use Rattle.sim_journal.specs.declared.End.TheVariants as ends
 use Rattle.sim_cycle.specs.State.{State, Next, Update, events, table, driving_value, all_ran, first_state}
 use Rattle.sim_cycle.specs.Cycle.{Task, ComputeValues, RunProcesses, StartCycle, UpdateSignals, Does, Then, Tasks, Cycle, cycle, initialization, moved, moved_to}
-use Rattle.sim_cycle.specs.Run.{Plan, Leads, RestIn, IsRest, IsLeft, IsRun, Part, end_at, end_by}
-use Rattle.sim_cycle.specs.World.{World, first_world, Left, left_by, Extends}
+use Rattle.sim_cycle.specs.declared.Plan.{Plan}
+use Rattle.sim_cycle.specs.Run.{Leads, RestIn, IsRest, IsLeft, IsRun, Part, end_at, end_by}
+use Rattle.sim_cycle.specs.World.{World, first_world, Left, left_by, Extends, section, SectionDone, EndReached}
 
 -- a world is what follows itself
 pub extends_same : (w : World) → Extends w [] w
@@ -19,41 +20,42 @@ pub extends_more : (u v w : World) (xs ys : List Entry) → Extends u xs v → E
 extends_more u v w xs ys first second =
     λ es end h. subst (λ (l : List Entry). Left u l end) (sym (append_assoc xs ys es)) (first (ys ++ es) end (second es end h))
 
--- a task is done
-pub task_move : (d : Design) (plan : Plan) (s t : State) (j k : List Entry) (task : Task) (tasks : List Task) (added : List Entry) → Does d task s added t → Extends (record { design = d; plan = plan; state = s; journal = j; tasks = task ∷ tasks; ended = None }) added (record { design = d; plan = plan; state = t; journal = k; tasks = tasks; ended = None })
-task_move d plan s t j k task tasks added does =
-    λ es end h. record {
-      front = added ++ h.front;
-      back = h.back;
-      mid = h.mid;
-      whole = ap (λ (l : List Entry). added ++ l) h.whole ∙ sym (append_assoc added h.front h.back);
-      first = record { front = added; back = h.front; mid = t; whole = refl; first = does; second = h.first };
-      last = h.last;
-    }
+-- between two sections only the rest of the run is left
+pub rest_of_left : (d : Design) (plan : Plan) (s : State) (es : List Entry) (end : End) → IsLeft d plan [] s es end → IsRest d plan s es end
+rest_of_left d plan s es end h =
+    let whole : h.back ≡ es = sym (rw h.first.0 at h.whole) in
+    let rest : IsRest d plan s h.back end = subst (λ (x : State). IsRest d plan x h.back end) h.first.1 h.last in
+    subst (λ (l : List Entry). IsRest d plan s l end) whole rest
 
--- a cycle begins, where no end applies
-pub cycle_move : (d : Design) (plan : Plan) (s : State) (j k : List Entry) → end_at plan s ≡ None → Extends (record { design = d; plan = plan; state = s; journal = j; tasks = []; ended = None }) [] (record { design = d; plan = plan; state = s; journal = k; tasks = cycle; ended = None })
-cycle_move d plan s j k none =
-    λ es end h. record {
-      front = [];
-      back = es;
-      mid = s;
-      whole = refl;
-      first = (refl, refl);
-      last = (suc h.last.0, (none, record { front = h.front; back = h.back; mid = h.mid; whole = h.whole; first = h.first; last = h.last.1 }));
-    }
+pub left_of_rest : (d : Design) (plan : Plan) (s : State) (es : List Entry) (end : End) → IsRest d plan s es end → IsLeft d plan [] s es end
+left_of_rest d plan s es end h = record { front = []; back = es; mid = s; whole = refl; first = (refl, refl); last = h }
 
--- an end applies
-pub end_move : (d : Design) (plan : Plan) (s : State) (j k : List Entry) (e : End) → end_at plan s ≡ Some e → Extends (record { design = d; plan = plan; state = s; journal = j; tasks = []; ended = None }) (entries.Ended e ∷ []) (record { design = d; plan = plan; state = s; journal = k; tasks = []; ended = Some e })
-end_move d plan s j k e some =
-    λ es end h. record {
-      front = [];
-      back = entries.Ended e ∷ es;
-      mid = s;
-      whole = refl;
-      first = (refl, refl);
-      last = (zero, (some ∙ ap (λ (x : End). Some x) (sym h.1), rw (h.0, h.1) refl));
-    }
+-- a section is done, and then comes the rest
+pub section_left : (d : Design) (plan : Plan) (s t : State) (tasks : List Task) (added es : List Entry) (end : End) → (tasks ≡ [] → end_at plan s ≡ None) → Tasks d (section tasks) s added t → IsRest d plan t es end → IsLeft d plan tasks s (added ++ es) end
+section_left d plan s t [] added es end goes done rest =
+    left_of_rest d plan s (added ++ es) end (suc rest.0, (goes refl, record { front = added; back = es; mid = t; whole = refl; first = done; last = rest.1 }))
+section_left d plan s t (k ∷ ks) added es end goes done rest =
+    record { front = added; back = es; mid = t; whole = refl; first = done; last = rest }
+
+pub section_extends : (old new : World) (h : SectionDone old new) → Extends old h.added new
+section_extends old new h =
+    λ es end left.
+      let next : World = record old { state = new.state; journal = old.journal ++ h.added; tasks = [] } in
+      let left : left_by old.ended next es end = subst (λ (w : World). left_by w.ended w es end) h.after left in
+      let left : IsLeft old.design old.plan [] new.state es end = subst (λ (o : Option End). left_by o next es end) h.running left in
+      subst (λ (o : Option End). left_by o old (h.added ++ es) end) (sym h.running)
+        (section_left old.design old.plan old.state new.state old.tasks h.added es end h.goes_on h.done (rest_of_left old.design old.plan new.state es end left))
+
+pub end_extends : (old new : World) (e : End) (h : EndReached old new e) → Extends old (entries.Ended e ∷ []) new
+end_extends old new e h =
+    λ es end left.
+      let next : World = record old { journal = old.journal ++ entries.Ended e ∷ []; ended = Some e } in
+      let left : (es ≡ []) × (end ≡ e) = subst (λ (w : World). left_by w.ended w es end) h.after left in
+      let rest : IsRest old.design old.plan old.state (entries.Ended e ∷ es) end =
+          (zero, (h.applies ∙ ap (λ (x : End). Some x) (sym left.1), rw (left.0, left.1) refl)) in
+      let all : IsLeft old.design old.plan old.tasks old.state (entries.Ended e ∷ es) end =
+          subst (λ (ks : List Task). IsLeft old.design old.plan ks old.state (entries.Ended e ∷ es) end) (sym h.between) (left_of_rest old.design old.plan old.state (entries.Ended e ∷ es) end rest) in
+      subst (λ (o : Option End). left_by o old (entries.Ended e ∷ es) end) (sym h.running) all
 
 -- what follows the first world up to an end is a run
 pub run_of : (d : Design) (plan : Plan) (es : List Entry) (w : World) (e : End) → Extends (first_world d plan) es w → w.ended ≡ Some e → IsRun d plan es e
@@ -80,8 +82,9 @@ pub cycle_from : (d : Design) (s : State) → (es : List Entry) × (t : State) �
 cycle_from d s =
     let t : State = moved s in
     let u : State = Update d t in
-    let es : List Entry = events (length d.nets) t.values u.values in
-    (entries.Time t.now t.delta t.cycle ∷ (es ++ []), u,
+    let es : List Entry = events (length d.nets) t.values u.values in (
+      entries.Time t.now t.delta t.cycle ∷ (es ++ []),
+      u,
       record {
         front = entries.Time t.now t.delta t.cycle ∷ [];
         back = es ++ [];
@@ -90,7 +93,8 @@ cycle_from d s =
         first = (refl, refl);
         second = record { front = es; back = []; mid = u; whole = refl; first = (refl, refl); second = (refl, refl) };
       },
-      refl)
+      refl,
+    )
 
 -- at the limit some end applies
 pub ends_by : (plan : Plan) (s : State) (next : Option ℕ) → plan.limit ≤ s.cycle → end_by plan s next ≡ None → ⊥
@@ -107,7 +111,7 @@ rest_by zero d plan s None is within = absurd (ends_by plan s (Next s) (omega ar
 rest_by (suc fuel) d plan s None is within =
     let step : (es : List Entry) × (t : State) × Cycle d s es t × (t.cycle ≡ s.cycle + 1) = cycle_from d s in
     let rest : (es : List Entry) × (end : End) × IsRest d plan step.1 es end =
-        rest_by fuel d plan step.1 (end_at plan step.1) refl (omega (arith, step.3)) in
+    rest_by fuel d plan step.1 (end_at plan step.1) refl (omega (arith, step.3)) in
     (step.0 ++ rest.0, rest.1, (suc rest.2.0, (is, record { front = step.0; back = rest.0; mid = step.1; whole = refl; first = step.2; last = rest.2.1 })))
 
 pub rest_from : (d : Design) (plan : Plan) (s : State) → (es : List Entry) × (end : End) × IsRest d plan s es end

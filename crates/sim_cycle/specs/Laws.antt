@@ -2,7 +2,8 @@ use Rattle.std.specs.Prelude.{◌≡◌, List}
 use Rattle.sim_design.specs.declared.Design.{Design}
 use Rattle.sim_journal.specs.declared.Entry.{Entry}
 use Rattle.sim_journal.specs.declared.End.{End}
-use Rattle.sim_cycle.specs.Run.{Plan, IsRun}
+use Rattle.sim_cycle.specs.declared.Plan.{Plan}
+use Rattle.sim_cycle.specs.Run.{IsRun}
 
 -- every design has a run under every plan
 abbrev pub EveryDesignRuns : Type 0

@@ -3,3 +3,4 @@ pub mod Cycle
 pub mod Run
 pub mod World
 pub mod Laws
+pub mod Worked

@@ -4,12 +4,9 @@ use Rattle.sim_journal.specs.declared.Entry.{Entry}
 use Rattle.sim_journal.specs.declared.Entry.TheVariants as entries
 use Rattle.sim_journal.specs.declared.End.{End}
 use Rattle.sim_journal.specs.declared.End.TheVariants as ends
+use Rattle.sim_cycle.specs.declared.Plan.{Plan}
 use Rattle.sim_cycle.specs.State.{State, Next, first_state}
 use Rattle.sim_cycle.specs.Cycle.{Task, Tasks, Cycle, initialization}
-
--- what a run is asked for: the cycle with which it ends at the latest
-pub record Plan : Type 0 where
-  pub limit : ℕ
 
 -- the end that applies between two cycles, if one does; the first of them in this order
 abbrev pub end_by : Plan → State → Option ℕ → Option End

@@ -71,13 +71,13 @@ abbrev pub value_at : List ℤ → ℕ → ℤ
 value_at vs net = slice_index_or vs net (pos 0)
 
 -- the new value of a net (14.7.3): its driving value where a source is active now, else the old one
-abbrev pub updated_value : Design → State → ℕ → ℤ
-updated_value d s net =
-    if is_sourced d s.now s.waves net then driving_value d (map (at_time s.now) s.waves) net else value_at s.values net
+abbrev pub updated_value : Design → ℕ → List ℤ → List Waveform → ℕ → ℤ
+updated_value d now values ws net =
+    if is_sourced d now ws net then driving_value d (map (at_time now) ws) net else value_at values net
 
 -- the state after the update of all drivers and nets
 abbrev pub Update : Design → State → State
-Update d s = record s { values = table (length d.nets) (updated_value d s); waves = map (at_time s.now) s.waves }
+Update d s = record s { values = table (length d.nets) (updated_value d s.now s.values s.waves); waves = map (at_time s.now) s.waves }
 
 -- the net has an event (14.7.3.1): its value changes; the entry that says so
 abbrev pub event_of : List ℤ → List ℤ → ℕ → List Entry

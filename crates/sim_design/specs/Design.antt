@@ -1,4 +1,4 @@
-use Rattle.std.specs.Prelude.{ℕ, ◌-◌, ◌^◌, List, [], ◌∷◌, ◌++◌, Bool, true, false, ◌&&◌, nat_lt, nat_le, nat_eq, length, IsTrue, codes, slice_get, Some, None, Option, if◌then◌else◌}
+use Rattle.std.specs.Prelude.{ℕ, ◌-◌, ◌^◌, ◌<◌, List, [], ◌∷◌, ◌++◌, Bool, true, false, ◌&&◌, nat_lt, nat_le, nat_eq, length, IsTrue, codes, slice_get, Some, None, Option, if◌then◌else◌}
 use Rattle.std.specs.List.{list_all, list_any}
 use Rattle.sim_design.specs.declared.Instance.{Instance}
 use Rattle.sim_design.specs.declared.Net.{Net}
@@ -20,9 +20,13 @@ abbrev pub is_ascending : List WaveformElement → Bool
 is_ascending [] = false
 is_ascending (e ∷ es) = ascends_above e.delay es
 
+-- a delay that doesn't pass TIME'HIGH
+abbrev pub is_in_time : WaveformElement → Bool
+is_in_time e = nat_le e.delay time_high
+
 -- a waveform: its delays ascend strictly, and none of them passes TIME'HIGH
 abbrev pub is_waveform : List WaveformElement → Bool
-is_waveform es = is_ascending es && list_all (λ e. nat_le e.delay time_high) es
+is_waveform es = is_ascending es && list_all is_in_time es
 
 -- one of the processes assigns to the net
 abbrev pub is_target : ℕ → List Process → Bool
@@ -47,6 +51,11 @@ is_sound d =
 
 abbrev pub IsSound : Design → Type 0
 IsSound d = IsTrue (is_sound d)
+
+-- nets and processes can be numbered with 32 bits
+pub record IsNumbered (d : Design) : Type 0 where
+  pub nets : length d.nets < 2 ^ 32
+  pub processes : length d.processes < 2 ^ 32
 
 -- the full name of an instance: `:` and its name, since the root is the only one
 abbrev pub name_under_root : Option Instance → List ℕ

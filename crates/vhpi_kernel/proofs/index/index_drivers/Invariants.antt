@@ -1,0 +1,6 @@
+use Rattle.std.proofs.Common.{◌≡◌, ◌<◌, ℕ, length, take, None, slice_index_or}
+use Rattle.vhpi_kernel.specs.Index.{driver_of, IsIndex}
+use Rattle.vhpi_kernel.proofs.index.index_drivers.Given as goal
+
+abbrev pub invariant-loop-number : goal.invariant-loop-number
+invariant-loop-number l = IsIndex l.index.items l.nets (take l.number l.processes)

@@ -59,8 +59,8 @@ pub advances : (to : Channel) (all piece rest : List ℕ) (old now next : Seen) 
 advances to all piece rest old now next p e = record {
   front = p.front ++ piece;
   written = e ∙ ap (wrote to piece) p.written ∙ wrote-wrote to p.front piece old;
-  whole = p.whole ∙ sym (append_assoc p.front piece rest)
-  }
+  whole = p.whole ∙ sym (append_assoc p.front piece rest);
+}
 
 -- a piece of the rest was cut off: a front of the whole text was written
 pub cut : (to : Channel) (all piece rest : List ℕ) (old now next : Seen) → Progress to all (piece ++ rest) old now → WroteFront to piece now next → WroteFront to all old next

@@ -11,6 +11,7 @@ use crate::names::Name;
 /// speaks of it. `faults` counts the faults, and stands still at 2^64 - 1.
 pub trait Host {
     ghost seen: { Self → Seen };
+
     ghost faults: { Self → ℕ };
 
     /// Begins the named file, all of which is then left to be read. A missing file is a fault.

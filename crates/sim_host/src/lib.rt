@@ -6,17 +6,20 @@ ghost use Rattle.std.specs.Prelude.{◌≡◌, IfOk};
 mod channels;
 mod errors;
 mod hosts;
+mod memory;
 mod names;
 mod reading;
+mod system;
 mod writing;
-
-use std::alloc::Global;
 
 pub use channels::Channel;
 pub use errors::{HostError, NoMemory, ReadError};
 pub use hosts::Host;
+pub use memory::{MemoryHost, memory_host, memory_host_without_faults};
 pub use names::{Asked, Name};
 pub use reading::read_all;
+use std::alloc::Global;
+pub use system::FileHost;
 pub use writing::write_all;
 
 /// The name of these bytes.

@@ -1,4 +1,5 @@
 ghost use Rattle.std.specs.Prelude.{◌≡◌, ℕ, ◌<◌, ◌≤◌, ◌-◌, ◌++◌, List, length, vec_len, IfOk, IfErr, IsTrue};
+ghost use Rattle.sim_host.specs.declared.names.Asked.{Asked};
 ghost use Rattle.sim_host.specs.Host.{Asks, HasReadCause, IsAtEnd, IsTooLong, IsWhole, OnlyReads, Reads, StopsReading, StopsTaking};
 
 use crate::errors::ReadError;
@@ -13,7 +14,12 @@ const CHUNK: usize = 4096;
 ///
 /// A file of more than `limit` bytes is `TooLong`, and one byte more than the limit is then read. The answer is
 /// `Host` only at a fault of the host.
-pub fn read_all<H: Host>(alloc: Global, host: &mut H, name: &Name, limit: usize) -> Result<Vec<u8>, ReadError>
+pub fn read_all<H: Host>(
+    alloc: Global,
+    host: &mut H,
+    name: &Name,
+    limit: usize,
+) -> Result<Vec<u8>, ReadError>
     ensures whole { IfOk result (λ bytes.
         IsWhole name.now limit bytes.items (H.seen host.old) (H.seen host.new)) }
     ensures stopped { IfErr result (λ e.

@@ -10,5 +10,5 @@ loop-done-preserved g c =
       within = search rules;
       written = written_more _ _ _ c.in_ok-done.field-0 _ _ _ c.loop-done.invariant.written (rw c.split_at.ensures.back at taken);
       may = rw taken (MayWrite-wrote _ _ _ _ c.loop-done.invariant.may);
-      faults = search rules
+      faults = search rules;
     }

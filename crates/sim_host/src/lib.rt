@@ -28,3 +28,6 @@ pub fn name(alloc: Global, text: &str) -> Result<Name, NoMemory>
 {
     Name::from_text(alloc, text)
 }
+
+#[cfg(test)]
+mod tests;

@@ -1,18 +1,17 @@
 -- Where a host in memory finds a file.
-use Rattle.std.proofs.Common.{◌≡◌, ℕ, ◌+◌, ◌<◌, Bool, true, false, cond, not, List, [], ◌∷◌, length, get_or, None, Some, Option, Vec, suc, zero, refl, sym, ap, ◌∙◌, arith, rules, ltb, bytes_eq, MatchOption}
+use Rattle.std.proofs.Common.{◌≡◌, ℕ, ◌+◌, ◌<◌, Bool, true, false, cond, not, List, [], ◌∷◌, length, get_or, None, Some, Option, Vec, suc, zero, refl, sym, ap, ◌∙◌, arith, ltb, bytes_eq, MatchOption}
 use Rattle.std.specs.List.{position, position_or_len}
 use Rattle.std.proofs.lemmas.Bool.Decides.{nat_tests}
 use Prim.Native.Nat.compare
 use lib.Dec.{is_le}
 use borrow.Author.Tests.{ltb-true}
-use Rattle.std.proofs.Common.{◌⊎◌, inl, inr, Result, Ok, Err, subst, ◌++◌}
+use Rattle.std.proofs.Common.{◌⊎◌, inl, inr, Ok, Err, subst, ◌++◌}
 use Rattle.std.proofs.lemmas.Option.{MatchOption-at_some, MatchOption-at_none}
 use Rattle.sim_host.specs.declared.names.Asked.{Asked}
 use Rattle.sim_host.specs.declared.names.Asked.TheVariants.{Start}
 use Rattle.sim_host.specs.declared.errors.HostError.{HostError}
 use Rattle.std.proofs.Common.{take, drop, take-append-drop}
 use Rattle.std.proofs.lemmas.List.{drop-drop}
-use Rattle.std.specs.Io.KnownBytes.{prepend_known}
 use Rattle.sim_host.specs.Host.{Reads, bytes_of, started}
 use Rattle.sim_host.specs.Memory.{FaultsWhere, Memory, entries, seen_of, text_at}
 

@@ -1,16 +1,11 @@
 -- What reads take off a file, one after another, and what a whole file comes to.
-use Rattle.std.proofs.Common.{◌≡◌, ℕ, ◌+◌, ◌-◌, ◌<◌, ◌≤◌, List, [], ◌∷◌, ◌++◌, length, take, drop, None, Some, Option, refl, sym, ap, subst, ◌∙◌, arith, append_assoc, append-nil, length-append, rules, option_map, inl, inr}
+use Rattle.std.proofs.Common.{◌≡◌, ℕ, ◌+◌, ◌<◌, List, [], ◌++◌, length, drop, None, Some, Option, refl, sym, ap, ◌∙◌, arith, append_assoc, length-append, option_map, inr}
 use Rattle.std.proofs.lemmas.List.{drop_at}
-use Rattle.std.proofs.Common.{Result, Ok, Err, ◌⊎◌}
 use Rattle.std.specs.Prelude.{⊤, IsSomeAnd, IfSome, option_and_then}
 use Rattle.std.specs.Io.KnownBytes.{prepend_known}
 use Rattle.sim_host.specs.declared.errors.ReadError.{ReadError}
 use Rattle.sim_host.specs.declared.errors.ReadError.TheVariants as refusal
-use Rattle.sim_host.specs.declared.errors.HostError.{HostError}
-use Rattle.sim_host.specs.declared.errors.HostError.TheVariants as failure
-use Rattle.sim_host.specs.declared.names.Asked.TheVariants.{Start}
-use Rattle.sim_host.specs.Errors.{read_error_of}
-use Rattle.sim_host.specs.Host.{Asks, FailsToStart, OnlyReads, StopsReading, also_asked, asked_also, unbegun, Files, IsAtEnd, IsTooLong, IsWhole, Reads, Seen, StopsTaking, TextHas, TookSome, bytes_of, started, took}
+use Rattle.sim_host.specs.Host.{StopsReading, Files, Reads, Seen, StopsTaking, TextHas, bytes_of, started, took}
 
 prepend_known-prepend : (xs ys : List ℕ) (o : Option (List ℕ)) → prepend_known xs (prepend_known ys o) ≡ prepend_known (xs ++ ys) o
 prepend_known-prepend xs ys None = refl

@@ -63,12 +63,13 @@ added channel.File bytes w = record w { file = append_known w.file bytes }
 abbrev pub wrote : Channel → List ℕ → Seen → Seen
 wrote to bytes s = record s { written = added to bytes s.written }
 
--- the channel File holds nothing
-abbrev pub nothing : List ℕ → List ℕ
-nothing bytes = []
+-- no bytes, whatever was there
+abbrev pub no_bytes : List ℕ → List ℕ
+no_bytes bytes = []
 
+-- the channel File holds nothing
 abbrev pub emptied : Written → Written
-emptied w = record w { file = option_map nothing w.file }
+emptied w = record w { file = option_map no_bytes w.file }
 
 -- only to File may a write be wrong: it has to be begun
 abbrev pub MayWrite : Channel → Seen → Type 0

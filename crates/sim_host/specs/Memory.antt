@@ -1,10 +1,9 @@
 -- A host in memory, as contracts see it. It tells all that a host can tell.
-use Rattle.std.specs.Prelude.{◌≡◌, ℕ, ◌+◌, ◌-◌, ◌^◌, min, Bool, false, List, [], ◌∷◌, map, ⊤, ◌⊎◌, Option, None, Some, Result, Vec, is_some, IsErr, IsErrOf, Contains, zero, suc}
-use Rattle.sim_host.specs.declared.channels.Channel.{Channel}
+use Rattle.std.specs.Prelude.{◌≡◌, ℕ, ◌+◌, ◌-◌, ◌^◌, min, Bool, false, List, [], ◌∷◌, map, Option, None, Some, Result, Vec, is_some, IsErr, IsErrOf, Contains, zero, suc}
 use Rattle.sim_host.specs.declared.names.Asked.{Asked}
 use Rattle.sim_host.specs.declared.errors.HostError.{HostError}
 use Rattle.sim_host.specs.declared.errors.HostError.TheVariants as failure
-use Rattle.sim_host.specs.Host.{Files, Seen, Written, bytes_of}
+use Rattle.sim_host.specs.Host.{Files, Seen, bytes_of}
 
 -- the files; what is left of the begun one, if one is begun; what the channels hold; what was asked for;
 -- whether the channel File is begun; the most that one read gives; the numbers of the calls that fail;

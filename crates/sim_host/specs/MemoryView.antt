@@ -2,7 +2,6 @@
 use Rattle.std.specs.Prelude.{ℕ, ◌<◌, ◌≤◌, List, length, drop, Option, None, Some, option_map, ⊤}
 use Rattle.sim_host.specs.declared.memory.MemoryHost.TheInside.{Inside}
 use Rattle.sim_host.specs.declared.memory.Reading.{Reading}
-use Rattle.sim_host.specs.Host.{Files}
 use Rattle.sim_host.specs.Memory.{Memory, entries, text_at}
 
 -- what is left of the file that is being read

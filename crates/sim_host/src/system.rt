@@ -1,4 +1,4 @@
-ghost use Rattle.std.specs.Prelude.{◌≡◌, ◌+◌, ◌-◌, ◌^◌, ◌≤◌, min, is_some, IfNone, IfSome};
+ghost use Rattle.std.specs.Prelude.{◌≡◌, ◌+◌, ◌-◌, ◌^◌, ◌≤◌, false, min, is_some, IfNone, IfSome};
 ghost use Rattle.sim_host.specs.Host.{TakesSome};
 ghost use Rattle.sim_host.specs.Silent.{silent};
 
@@ -24,8 +24,12 @@ pub struct FileHost<R: Files + Drop, O: Print + Drop, E: Print + Drop> {
 }
 
 impl<R: Files + Drop, O: Print + Drop, E: Print + Drop> FileHost<R, O, E> {
-    /// The host of these files, of standard output and of standard error, as `main` is handed them.
-    pub fn new(files: R, out: O, err: E) -> Self {
+    /// The host of these files, of standard output and of standard error, as `main` is handed them. Nothing is begun,
+    /// and there was no fault.
+    pub fn new(files: R, out: O, err: E) -> Self
+        ensures nothing_begun { ⟦<FileHost<R, O, E> as Host>⟧.seen result ≡ silent false false }
+        ensures no_faults { ⟦<FileHost<R, O, E> as Host>⟧.faults result ≡ 0 }
+    {
         FileHost {
             files,
             out,

@@ -1,4 +1,4 @@
-ghost use Rattle.std.specs.Prelude.{◌≡◌, IfOk, length};
+ghost use Rattle.std.specs.Prelude.{IfOk};
 ghost use Rattle.sim_host.specs.Host.{HasDistinctNames};
 ghost use Rattle.sim_host.specs.Memory.{entries};
 
@@ -27,32 +27,79 @@ fn host_failing_at(alloc: Global, text: &str, call: u64) -> Result<MemoryHost, N
     memory_host(alloc, files, 2, Vec::from_slice(alloc, &[call])?)
 }
 
+/// A file that is asked for, the bytes of `FILE`, a limit, the call that fails, and what `read_all` is to answer.
+#[derive(Drop)]
+struct Case {
+    at: &'static str,
+    text: &'static str,
+    limit: usize,
+    call: u64,
+    want: Result<&'static str, ReadError>,
+}
+
+fn make_case(
+    at: &'static str,
+    text: &'static str,
+    limit: usize,
+    call: u64,
+    want: Result<&'static str, ReadError>,
+) -> Case {
+    Case {
+        at,
+        text,
+        limit,
+        call,
+        want,
+    }
+}
+
+/// The calls are the start, the reads of "ab", "cd" and "e", and the read that finds the end.
+fn cases() -> [Case; 11] {
+    [
+        make_case(FILE, "abcde", 5, 0, Ok("abcde")),
+        make_case(FILE, "abcde", 9, 0, Ok("abcde")),
+        make_case(FILE, "abcde", 4, 0, Err(ReadError::TooLong)),
+        make_case(FILE, "abcde", 0, 0, Err(ReadError::TooLong)),
+        make_case(FILE, "", 0, 0, Ok("")),
+        make_case("b.vhd", "abcde", 5, 0, Err(ReadError::Host)),
+        make_case(FILE, "abcde", 5, 1, Err(ReadError::Host)),
+        make_case(FILE, "abcde", 5, 4, Err(ReadError::Host)),
+        make_case(FILE, "abcde", 5, 5, Err(ReadError::Host)),
+        make_case(FILE, "abcde", 5, 6, Ok("abcde")),
+        make_case(FILE, "abcde", 3, 4, Err(ReadError::TooLong)),
+    ]
+}
+
+/// Whether `read_all` answers what the case wants, and asks for the file once.
+fn passes(alloc: Global, case: &Case) -> Result<bool, NoMemory> {
+    let mut host = host_failing_at(alloc, case.text, case.call)?;
+    let answer = read_all(alloc, &mut host, &name(alloc, case.at)?, case.limit);
+    let right = match &answer {
+        Ok(bytes) => case
+            .want
+            .is_ok_and(|text| bytes.as_slice() == text.as_bytes()),
+        Err(error) => case.want.is_err_and(|want| *error == want),
+    };
+    Ok(right && starts_only(host.asked(), case.at))
+}
+
+fn starts_only(asked: &[Asked], at: &str) -> bool {
+    matches!(asked, [Asked::Start(name)] if name.bytes() == at.as_bytes())
+}
+
+fn creates_only(asked: &[Asked], at: &str) -> bool {
+    matches!(asked, [Asked::Create(name)] if name.bytes() == at.as_bytes())
+}
+
 #[test]
 fn reads_whole_files(rt: HostRuntime) -> Result<(), Fail> {
-    let cases: [(&str, &str, usize, u64, Result<&str, ReadError>); 11] = [
-        (FILE, "abcde", 5, 0, Ok("abcde")),
-        (FILE, "abcde", 9, 0, Ok("abcde")),
-        (FILE, "abcde", 4, 0, Err(ReadError::TooLong)),
-        (FILE, "abcde", 0, 0, Err(ReadError::TooLong)),
-        (FILE, "", 0, 0, Ok("")),
-        ("b.vhd", "abcde", 5, 0, Err(ReadError::Host)),
-        // The calls are the start, the reads of "ab", "cd" and "e", and the read that finds the end.
-        (FILE, "abcde", 5, 1, Err(ReadError::Host)),
-        (FILE, "abcde", 5, 4, Err(ReadError::Host)),
-        (FILE, "abcde", 5, 5, Err(ReadError::Host)),
-        (FILE, "abcde", 5, 6, Ok("abcde")),
-        (FILE, "abcde", 3, 4, Err(ReadError::TooLong)),
-    ];
-    for (at, text, limit, call, want) in cases {
-        let mut host = host_failing_at(rt.alloc(), text, call)?;
-        let got = read_all(rt.alloc(), &mut host, &name(rt.alloc(), at)?, limit);
-        match (&got, want) {
-            (Ok(bytes), Ok(want)) => assert_eq!(rt; bytes.as_slice(), want.as_bytes()),
-            (Err(error), Err(want)) => assert_eq!(rt; *error, want),
-            _ => panic!(rt; "{at} {text} {limit} {call}"),
-        }
+    for case in &cases() {
+        let text = case.text;
+        let limit = case.limit;
+        let call = case.call;
         assert!(rt;
-            matches!(host.asked(), [Asked::Start(asked)] if asked.bytes() == at.as_bytes())
+            passes(rt.alloc(), case)?,
+            "{text} limit {limit} failing at {call}"
         );
     }
     Ok(())
@@ -70,16 +117,10 @@ fn writes_to_channels(rt: HostRuntime) -> Result<(), Fail> {
     );
     write_all(&mut host, Channel::Out, b"two")?;
     write_all(&mut host, Channel::Err, b"why")?;
-    for (channel, want) in [
-        (Channel::Out, "one two"),
-        (Channel::Err, "why"),
-        (Channel::File, "saved"),
-    ] {
-        assert_eq!(rt; host.written(channel), want.as_bytes());
-    }
-    assert!(rt;
-        matches!(host.asked(), [Asked::Create(asked)] if asked.bytes() == b"b.save".as_slice())
-    );
+    assert_eq!(rt; host.written(Channel::Out), b"one two".as_slice());
+    assert_eq!(rt; host.written(Channel::Err), b"why".as_slice());
+    assert_eq!(rt; host.written(Channel::File), b"saved".as_slice());
+    assert!(rt; creates_only(host.asked(), "b.save"));
     Ok(())
 }
 
@@ -104,7 +145,7 @@ fn uses_real_files(rt: HostRuntime) -> Result<(), Fail> {
     fs::remove_file(&rt, path)?;
     let gone = read_all(rt.alloc(), &mut host, &at, 8);
     assert_eq!(rt; read?.as_slice(), b"signal s".as_slice());
-    assert!(rt; matches!(long, Err(ReadError::TooLong)));
-    assert!(rt; matches!(gone, Err(ReadError::Host)));
+    assert_eq!(rt; long.err(), Some(ReadError::TooLong));
+    assert_eq!(rt; gone.err(), Some(ReadError::Host));
     Ok(())
 }

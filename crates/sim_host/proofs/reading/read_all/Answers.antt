@@ -1,6 +1,4 @@
-use Rattle.std.proofs.Common.{rules}
 use Rattle.std.proofs.lemmas.Result.{IfErr-weaker}
-use Rattle.sim_host.specs.Host.{StopsReading, StopsTaking}
 use Rattle.sim_host.proofs.Taking.{stops_reading}
 use Rattle.sim_host.proofs.reading.read_all.Goals as goal
 

@@ -1,4 +1,4 @@
-use Rattle.std.proofs.Common.{◌≡◌, ◌+◌, ◌-◌, arith, rules, vec_len, length}
+use Rattle.std.proofs.Common.{rules}
 use Rattle.std.proofs.lemmas.Result.{err_from_is_err_and}
 use Rattle.sim_host.proofs.Taking.{stops_later}
 use Rattle.sim_host.proofs.reading.read_rest.Goals as goal

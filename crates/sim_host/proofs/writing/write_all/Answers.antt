@@ -1,5 +1,4 @@
-use Rattle.std.proofs.Common.{take, drop, rules, subst, sym, ap, ◌∙◌, ◌≡◌, arith}
-use Rattle.sim_host.specs.Host.{MayWrite, Seen, wrote}
+use Rattle.std.proofs.Common.{rules}
 use Rattle.sim_host.proofs.Growth.{MayWrite-wrote, written_more}
 use Rattle.sim_host.proofs.writing.write_all.Goals as goal
 

@@ -1,4 +1,4 @@
-use Rattle.std.proofs.Common.{◌≡◌, List, ap, sym, ◌∙◌, rules, inl, inr, Some}
+use Rattle.std.proofs.Common.{◌≡◌, ap, sym, ◌∙◌, rules, inr, Some}
 use Rattle.sim_host.specs.Host.{bytes_of}
 use Rattle.sim_host.specs.Memory.{Memory, counted_up, entries, text_at}
 use Rattle.sim_host.proofs.FilesHeld.{faults_rightly, found_at, found_not, starts_held, succeeds_rightly}

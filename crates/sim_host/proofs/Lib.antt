@@ -1,0 +1,3 @@
+pub mod FilesHeld
+pub mod Growth
+pub mod Taking

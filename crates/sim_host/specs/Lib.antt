@@ -1,0 +1,5 @@
+pub mod Errors
+pub mod Host
+pub mod Memory
+pub mod MemoryView
+pub mod Silent

@@ -1,0 +1,4 @@
+pub mod FirstForm
+pub mod Lexis
+pub mod Reading
+pub mod Tree

@@ -1,5 +1,5 @@
 -- The readers as functions on lists, beside which their code is proved.
-use Rattle.std.specs.Prelude.{◌≡◌, ℕ, List, [], ◌∷◌, ◌++◌, length, zero, suc, Option, Some, None, Result, Ok, Err, if◌then◌else◌}
+use Rattle.std.specs.Prelude.{◌≡◌, ◌≤◌, ℕ, List, [], ◌∷◌, ◌++◌, length, zero, suc, Option, Some, None, Result, Ok, Err, if◌then◌else◌}
 use Rattle.std.specs.Option.{option_and_then, option_map_or}
 use Rattle.std.specs.Str.{bytes_eq}
 use Rattle.sim_design.specs.declared.Design.{Design}
@@ -10,6 +10,8 @@ use Rattle.first_form.specs.declared.token.Token.TheVariants.{After, Architectur
 use Rattle.first_form.specs.declared.tree.Element.{Element}
 use Rattle.first_form.specs.declared.tree.Assignment.{Assignment}
 use Rattle.first_form.specs.declared.tree.DesignFile.{DesignFile}
+
+use Rattle.first_form.specs.Lexis.{Tokens}
 
 infixl 10 ◌>>=◌
 abbrev pub ◌>>=◌ : {A B : Type 0} → Option A → (A → Option B) → Option B
@@ -24,6 +26,16 @@ Fails NotBuilt read = read ≡ None
 abbrev pub Gives : {X Y : Type 0} → (X → Y) → Result X FormError → Option Y → Type 0
 Gives view (Ok x) read = read ≡ Some (view x)
 Gives view (Err e) read = Fails e read
+
+-- no tokens are those of the text, unless it was memory that ran out
+abbrev pub HasNoTokens : FormError → List ℕ → Type 0
+HasNoTokens NoMemory text = Unit {0}
+HasNoTokens NotBuilt text = (ts : List Token) → Tokens ts text → ⊥
+
+-- what was returned are the tokens of the text, of which there are no more than bytes
+abbrev pub IsSplit : Result (List Token) FormError → List ℕ → Type 0
+IsSplit (Ok ts) text = Tokens ts text × (length ts ≤ length text)
+IsSplit (Err e) text = HasNoTokens e text
 
 abbrev pub with_front : {X : Type 0} → List X → List X × List Token → List X × List Token
 with_front front read = (front ++ read.0, read.1)

@@ -1,8 +1,8 @@
-ghost use Rattle.std.specs.Prelude.{◌≡◌, ◌<◌, ◌≤◌, false, Some, length, map, IfOk};
+ghost use Rattle.std.specs.Prelude.{◌≡◌, ◌+◌, ◌<◌, ◌≤◌, false, Some, length, map, IfOk};
 ghost use Rattle.std.specs.List.{list_all, list_any, prefix_len};
 ghost use Rattle.std.specs.Str.{bytes_eq};
 ghost use Rattle.first_form.specs.Lexis as lexis;
-ghost use Rattle.first_form.specs.Reading.{Gives};
+ghost use Rattle.first_form.specs.Reading.{Gives, IsSplit};
 
 use crate::fault::FormError;
 use crate::token::{TimeUnit, Token};
@@ -198,7 +198,8 @@ fn run_len(text: &[u8]) -> usize
 
 #[tactic(auto, unfolding(crate::specs::Lexis::run_at))]
 fn run_at(alloc: Global, text: &[u8]) -> Result<(Token, &[u8]), FormError>
-    ensures { Gives (λ x. (x.0, x.1.now)) result (lexis.run_at text.now) }
+    ensures read { Gives (λ x. (x.0, x.1.now)) result (lexis.run_at text.now) }
+    ensures rest { IfOk result (λ x. length x.1.now + prefix_len lexis.is_word_byte text.now ≡ length text.now) }
 {
     let (run, rest) = text.split_at(run_len(text));
     Ok((run_token(alloc, run)?, rest))
@@ -206,7 +207,8 @@ fn run_at(alloc: Global, text: &[u8]) -> Result<(Token, &[u8]), FormError>
 
 #[tactic(auto, unfolding(crate::specs::Lexis::becomes_at))]
 fn becomes_at(text: &[u8]) -> Result<(Token, &[u8]), FormError>
-    ensures { Gives (λ x. (x.0, x.1.now)) result (lexis.becomes_at text.now) }
+    ensures read { Gives (λ x. (x.0, x.1.now)) result (lexis.becomes_at text.now) }
+    ensures shorter { IfOk result (λ x. length x.1.now < length text.now) }
 {
     match text {
         [b'=', rest @ ..] => Ok((Token::Becomes, rest)),
@@ -216,7 +218,8 @@ fn becomes_at(text: &[u8]) -> Result<(Token, &[u8]), FormError>
 
 #[tactic(auto, unfolding(crate::specs::Lexis::character_at))]
 fn character_at(text: &[u8]) -> Result<(Token, &[u8]), FormError>
-    ensures { Gives (λ x. (x.0, x.1.now)) result (lexis.character_at text.now) }
+    ensures read { Gives (λ x. (x.0, x.1.now)) result (lexis.character_at text.now) }
+    ensures shorter { IfOk result (λ x. length x.1.now < length text.now) }
 {
     match text {
         [c @ 32..=126, b'\'', rest @ ..] => Ok((Token::Character(*c), rest)),
@@ -226,7 +229,8 @@ fn character_at(text: &[u8]) -> Result<(Token, &[u8]), FormError>
 
 #[tactic(auto, unfolding(crate::specs::Lexis::token_at))]
 fn token_at(alloc: Global, text: &[u8]) -> Result<(Token, &[u8]), FormError>
-    ensures { Gives (λ x. (x.0, x.1.now)) result (lexis.token_at text.now) }
+    ensures read { Gives (λ x. (x.0, x.1.now)) result (lexis.token_at text.now) }
+    ensures shorter { IfOk result (λ x. length x.1.now < length text.now) }
 {
     match text {
         [b':', rest @ ..] => Ok((Token::Colon, rest)),
@@ -252,4 +256,22 @@ fn behind_separators(text: &[u8]) -> &[u8]
 {
     let (_, rest) = text.split_at(separators_len(text));
     rest
+}
+
+/// The tokens of a text.
+pub fn tokens_of(alloc: Global, text: &[u8]) -> Result<Items<Token>, FormError>
+    ensures { IsSplit result text.now }
+{
+    let mut tokens = Items::new(alloc);
+    let mut rest = behind_separators(text);
+    while !rest.is_empty() {
+        match token_at(alloc, rest) {
+            Ok((token, after)) => {
+                tokens.push(token)?;
+                rest = behind_separators(after);
+            }
+            Err(fault) => return Err(fault),
+        }
+    }
+    Ok(tokens)
 }

@@ -1,3 +1,4 @@
 pub mod Many
 pub mod Productions
+pub mod Times
 pub mod TokenLoop

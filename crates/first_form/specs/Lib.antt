@@ -1,3 +1,4 @@
+pub mod Building
 pub mod FirstForm
 pub mod Lexis
 pub mod Reading

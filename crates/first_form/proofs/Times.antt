@@ -10,11 +10,12 @@ grows [] n = omega arith
 grows (d ∷ digits) n = omega (arith, grows digits (10 * n + (d - 48)))
 
 -- a number that is too large after some digits is too large
-pub too_large : (digits : List ℕ) (i d bound : ℕ) → i < length digits → d ≡ get_or digits i d
-    → (10 * number_of_digits (take i digits) + (d - 48) < bound → ⊥) → number_of_digits digits < bound → ⊥
-too_large digits i d bound within e large small =
+pub too_large : (digits : List ℕ) (i number bound : ℕ) → i < length digits → number ≡ number_of_digits (take i digits)
+    → (10 * number + (get_or digits i 0 - 48) < bound → ⊥) → number_of_digits digits < bound → ⊥
+too_large digits i number bound within e large small =
     let f : ℕ → ℕ → ℕ = λ n d. 10 * n + (d - 48) in
-    let more = fold_more f 0 digits i d within in
+    let more = fold_more f 0 digits i 0 within in
     let whole = fold-append f 0 (take (i + 1) digits) (drop (i + 1) digits) in
     let joined = ap number_of_digits (take-append-drop (i + 1) digits) in
-    large (omega (arith, grows (drop (i + 1) digits) (number_of_digits (take (i + 1) digits)), more, whole, joined, e))
+    let later = grows (drop (i + 1) digits) (number_of_digits (take (i + 1) digits)) in
+    large (rw e (omega (arith, later, more, whole, joined)))

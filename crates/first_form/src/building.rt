@@ -1,4 +1,4 @@
-ghost use Rattle.std.specs.Prelude.{◌≡◌, ◌+◌, ◌-◌, ◌*◌, ◌^◌, ◌<◌, ◌≤◌, ℕ, List, Some, length, map};
+ghost use Rattle.std.specs.Prelude.{◌≡◌, ◌+◌, ◌-◌, ◌*◌, ◌^◌, ◌<◌, ◌≤◌, ℕ, true, false, not, List, Some, length, map, slice_index_or, slice_set, vec_len};
 ghost use Rattle.std.specs.Option.{SomeIff};
 ghost use Rattle.sim_design.specs.Design.{time_high};
 ghost use Rattle.first_form.specs.Lexis as lexis;
@@ -168,5 +168,68 @@ fn process_of(
         instance: 0,
         target,
         waveform,
+    })
+}
+
+/// Marks a signal as assigned, and says whether it wasn't before.
+fn mark(assigned: &mut Vec<bool>, target: usize) -> bool
+    requires { target < vec_len assigned.old }
+    ensures first { result ≡ not (slice_index_or assigned.old.items target false) }
+    ensures marked { assigned.new.items ≡ slice_set assigned.old.items target true }
+{
+    let first = !assigned[target];
+    assigned[target] = true;
+    first
+}
+
+/// The processes of the assignments, each of which has a signal of its own.
+fn processes_of(
+    alloc: Global,
+    signals: &[Items<u8>],
+    numbers: &BTreeMap<&[u8], u32>,
+    assignments: &[Assignment],
+) -> Result<Items<Process>, FormError>
+    requires { (q : List ℕ) → number_at numbers.now q ≡ tree.number_in signals.now q }
+    ensures { Gives (λ p. p) result (building.processes_from signals.now assignments.now) }
+{
+    let mut assigned = vec![in alloc; false; signals.len()]?;
+    let mut processes = Items::new(alloc);
+    for assignment in assignments {
+        let process = match process_of(alloc, numbers, assignment) {
+            Ok(process) => process,
+            Err(fault) => return Err(fault),
+        };
+        if !mark(&mut assigned, process.target as usize) {
+            return Err(FormError::NotBuilt);
+        }
+        processes.push(process)?;
+    }
+    Ok(processes)
+}
+
+/// The design of a file, if its conditions hold.
+pub fn design_of(alloc: Global, file: &DesignFile) -> Result<Design, FormError>
+    requires { length file.now.signals < 2 ^ 32 }
+    ensures { Gives (λ d. d) result (building.design_from file.now) }
+{
+    let signals = file.signals.as_slice();
+    let numbers = match numbers_of(alloc, signals) {
+        Ok(numbers) => numbers,
+        Err(fault) => return Err(fault),
+    };
+    let processes = match processes_of(alloc, signals, &numbers, file.assignments.as_slice()) {
+        Ok(processes) => processes,
+        Err(fault) => return Err(fault),
+    };
+    let nets = nets_of(alloc, signals)?;
+    let mut instances = Items::new(alloc);
+    instances.push(Instance {
+        name: Items::from_slice(alloc, file.entity.as_slice())?,
+        architecture: Items::from_slice(alloc, file.architecture.as_slice())?,
+    })?;
+    Ok(Design {
+        instances,
+        nets,
+        processes,
     })
 }

@@ -8,7 +8,9 @@ mod building;
 mod fault;
 mod grammar;
 mod lexis;
+mod reading;
 mod token;
 mod tree;
 
 pub use fault::FormError;
+pub use reading::read_first_form;

@@ -14,3 +14,6 @@ mod tree;
 
 pub use fault::FormError;
 pub use reading::read_first_form;
+
+#[cfg(test)]
+mod tests;

@@ -50,8 +50,8 @@ pub are_apart-clash : {X : Type 0} (clash : X → X → Bool) (xs : List X) (y :
 are_apart-clash clash [] y ys h = cc
 are_apart-clash clash (x ∷ xs) y ys h =
     elim (or_cases (clash x y) (list_any (λ x. clash x y) xs) h) [
-      inl first ↦ rw (list_any-append (clash x) xs (y ∷ ys)) (met (list_any (clash x) xs) (clash x y) (list_any (clash x) ys) (are_apart clash (xs ++ y ∷ ys)) first)
-    | inr later ↦ rw (are_apart-clash clash xs y ys later) (settled (list_any (clash x) (xs ++ y ∷ ys)))
+      | inl first ↦ rw (list_any-append (clash x) xs (y ∷ ys)) (met (list_any (clash x) xs) (clash x y) (list_any (clash x) ys) (are_apart clash (xs ++ y ∷ ys)) first)
+      | inr later ↦ rw (are_apart-clash clash xs y ys later) (settled (list_any (clash x) (xs ++ y ∷ ys)))
     ]
 
 -- a list is what stands before a place, the element there, and what stands after it

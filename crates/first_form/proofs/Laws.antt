@@ -1,13 +1,12 @@
 -- What follows for every text of the first form.
-use Rattle.std.proofs.Common.{◌≡◌, ◌+◌, ◌<◌, ◌≤◌, ℕ, Bool, true, false, cond, ◌&&◌, nat_lt, List, [], ◌∷◌, Option, Some, None, Result, Ok, Err, IfOk, is_some, unwrap_or, length, map, refl, sym, ap, ◌∙◌, subst, arith}
-use Rattle.std.proofs.lemmas.Bool.{and_parts, and_from, lt-ltb, and_left, and_right}
+use Rattle.std.proofs.Common.{◌≡◌, ℕ, Bool, true, false, cond, ◌&&◌, nat_lt, List, [], ◌∷◌, Option, Some, None, Result, Ok, Err, IfOk, is_some, unwrap_or, length, map, refl, sym, ap, ◌∙◌, subst, arith}
+use Rattle.std.proofs.lemmas.Bool.{and_parts, and_from, lt-ltb}
 use Rattle.std.proofs.lemmas.Option.{same_Some, none-some, cond_some}
 use Rattle.std.proofs.lemmas.List.{length-map}
 use Rattle.std.specs.List.{list_all}
 use Rattle.sim_design.specs.declared.Net.{Net}
-use Rattle.sim_design.specs.declared.Process.{Process}
 use Rattle.sim_design.specs.declared.Design.{Design}
-use Rattle.sim_design.specs.Design.{IsSound, is_sound, is_process, is_waveform, have_own_targets}
+use Rattle.sim_design.specs.Design.{IsSound, is_process, is_waveform, have_own_targets}
 use Rattle.first_form.specs.declared.fault.FormError.{FormError}
 use Rattle.first_form.specs.declared.fault.FormError.TheVariants.{NotBuilt, NoMemory}
 use Rattle.first_form.specs.declared.token.Token.{Token}

@@ -1,8 +1,8 @@
 -- The processes of the assignments, and the signals that have one.
-use Rattle.std.proofs.Common.{◌≡◌, ◌+◌, ◌<◌, ◌≤◌, ℕ, zero, suc, Bool, true, false, cond, not, ◌&&◌, ◌||◌, nat_eq, List, [], ◌∷◌, ◌++◌, Option, Some, None, is_some, unwrap_or, length, get_or, set, replicate, take, drop, map, refl, sym, ap, ◌∙◌, subst, arith, length-set, get_or-set_same, get_or-set_other}
-use Rattle.std.proofs.lemmas.Bool.{and_from, and_right, eqb-true, eqb-false, not-true, not-false}
+use Rattle.std.proofs.Common.{◌≡◌, ◌+◌, ◌<◌, ◌≤◌, ℕ, zero, suc, Bool, true, false, cond, ◌||◌, nat_eq, List, [], ◌∷◌, ◌++◌, Option, Some, None, unwrap_or, length, get_or, set, replicate, take, drop, map, refl, sym, ap, ◌∙◌, subst, arith, length-set, get_or-set_same, get_or-set_other}
+use Rattle.std.proofs.lemmas.Bool.{and_right, eqb-true, eqb-false}
 use Rattle.std.proofs.lemmas.Bool.Decides.{nat_tests}
-use Rattle.std.proofs.lemmas.Option.{cond_some, same_Some, none-some}
+use Rattle.std.proofs.lemmas.Option.{cond_some, none-some}
 use Rattle.std.proofs.lemmas.List.{map-append, take_all, length-replicate}
 use Rattle.std.proofs.lemmas.List.Folds.{list_any-append, list_all-append, list_all_at}
 use Rattle.std.specs.List.{list_all, list_any}
@@ -62,7 +62,9 @@ unmarked (suc n) (suc k) = unmarked n k
 pub begins : (signals : List (List ℕ)) (as' : List Assignment) (assigned : List Bool) → assigned ≡ replicate (length signals) false
     → AreSoFar signals as' [] assigned 0
 begins signals as' assigned e = record {
-  so_far = refl; right = refl; own = refl;
+  so_far = refl;
+  right = refl;
+  own = refl;
   marks = λ k. rw e (unmarked (length signals) k);
   room = ap length e ∙ length-replicate (length signals) false;
 }
@@ -87,12 +89,12 @@ pub turns : (signals : List (List ℕ)) (as' : List Assignment) (ps pushed : Lis
     → get_or assigned p.target false ≡ false → pushed ≡ ps ++ p ∷ [] → marked ≡ set assigned p.target true
     → AreSoFar signals as' pushed marked (turn + 1)
 turns signals as' ps pushed assigned marked turn a p s within e m free e1 e2 = record {
-    so_far = rw (e1, take_next as' turn a within e, map-append (process_of signals) (take turn as') (a ∷ [])) (ap (λ ps. ps ++ p ∷ []) s.so_far ∙ ap (λ p. map (process_of signals) (take turn as') ++ p ∷ []) (sym m.same));
-    right = rw (take_next as' turn a within e, list_all-append (is_assignment signals) (take turn as') (a ∷ []), s.right, m.right) refl;
-    own = rw e1 (have_own_targets-apart (ps ++ p ∷ []) ∙ are_apart-push same_target ps p ∙ rw (sym (have_own_targets-apart ps), s.own, is_target-clash p ps, sym (s.marks p.target), free) refl);
-    marks = λ k. rw (e1, e2, list_any-append (λ q. nat_eq q.target k) ps (p ∷ [])) (at k (nat_eq p.target k) refl);
-    room = rw (e2, length-set) s.room;
-  }
+  so_far = rw (e1, take_next as' turn a within e, map-append (process_of signals) (take turn as') (a ∷ [])) (ap (λ ps. ps ++ p ∷ []) s.so_far ∙ ap (λ p. map (process_of signals) (take turn as') ++ p ∷ []) (sym m.same));
+  right = rw (take_next as' turn a within e, list_all-append (is_assignment signals) (take turn as') (a ∷ []), s.right, m.right) refl;
+  own = rw e1 (have_own_targets-apart (ps ++ p ∷ []) ∙ are_apart-push same_target ps p ∙ rw (sym (have_own_targets-apart ps), s.own, is_target-clash p ps, sym (s.marks p.target), free) refl);
+  marks = λ k. rw (e1, e2, list_any-append (λ q. nat_eq q.target k) ps (p ∷ [])) (at k (nat_eq p.target k) refl);
+  room = rw (e2, length-set) s.room;
+}
   where
     at : (k : ℕ) (b : Bool) → nat_eq p.target k ≡ b → get_or (set assigned p.target true) k false ≡ (is_target k ps || (nat_eq p.target k || false))
     at k true h =
@@ -117,7 +119,7 @@ clashes signals as' ps assigned turn a p s within e m taken =
     let f = process_of signals in
     let there : list_any (λ q. same_target q p) (map f (take turn as')) ≡ true = subst (λ ps. list_any (λ q. same_target q p) ps ≡ true) s.so_far (is_target-clash p ps ∙ (sym (s.marks p.target) ∙ taken)) in
     let parts : map f as' ≡ map f (take turn as') ++ p ∷ map f (drop (turn + 1) as') =
-        ap (map f) (split as' turn a within e) ∙ (map-append f (take turn as') (a ∷ drop (turn + 1) as') ∙ ap (λ p. map f (take turn as') ++ p ∷ map f (drop (turn + 1) as')) m.same) in
+    ap (map f) (split as' turn a within e) ∙ (map-append f (take turn as') (a ∷ drop (turn + 1) as') ∙ ap (λ p. map f (take turn as') ++ p ∷ map f (drop (turn + 1) as')) m.same) in
     let shared = have_own_targets-apart (map f as') ∙ (ap (are_apart same_target) parts ∙ are_apart-clash same_target (map f (take turn as')) p (map f (drop (turn + 1) as')) there) in
     rw (and_right (list_all (is_assignment signals) as') (have_own_targets (map f as')) shared) refl
 

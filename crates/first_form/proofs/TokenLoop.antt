@@ -1,5 +1,5 @@
 -- The tokens that a loop has read so far, and those that are still to come.
-use Rattle.std.proofs.Common.{◌≡◌, ◌+◌, ◌<◌, ◌≤◌, ℕ, nat_eq, true, false, List, [], ◌∷◌, ◌++◌, Option, Some, None, length, refl, sym, ap, ◌∙◌, subst, arith, append_assoc, length-append}
+use Rattle.std.proofs.Common.{◌≡◌, ◌+◌, ◌<◌, ◌≤◌, ℕ, nat_eq, true, false, List, [], ◌∷◌, ◌++◌, Some, length, refl, sym, ap, ◌∙◌, subst, arith, append_assoc, length-append}
 use Rattle.std.proofs.lemmas.Option.{some_pair_parts, none-some}
 use Rattle.std.proofs.lemmas.List.{append-nil}
 use Rattle.std.proofs.lemmas.Bool.{eqb-true}
@@ -29,9 +29,11 @@ next : (tokens others : List Token) (rest : List ℕ) (t : Token) (after : List 
     → (more : List Token) × (others ≡ (tokens ++ t ∷ []) ++ more) × TokensHere more (behind_separators after)
 next tokens others rest t after e [] o h = absurd (no_token t after (subst (λ r. token_at r ≡ Some (t, after)) h e))
 next tokens others rest t after e (u ∷ more) o h =
-    let same = some_pair_parts t u after h.0 (sym e ∙ h.1) in
-    (more, o ∙ (ap (λ x. tokens ++ x ∷ more) (sym same.0) ∙ sym (append_assoc tokens (t ∷ []) more)),
-      subst (λ r. TokensHere more (behind_separators r)) (sym same.1) h.2)
+    let same = some_pair_parts t u after h.0 (sym e ∙ h.1) in (
+      more,
+      o ∙ (ap (λ x. tokens ++ x ∷ more) (sym same.0) ∙ sym (append_assoc tokens (t ∷ []) more)),
+      subst (λ r. TokensHere more (behind_separators r)) (sym same.1) h.2,
+    )
 
 pub turns : (tokens pushed : List Token) (rest now text : List ℕ) (t : Token) (after : List ℕ) → IsSoFar tokens rest text
     → token_at rest ≡ Some (t, after) → length after < length rest

@@ -1,14 +1,14 @@
 -- The waveform of an assignment, read from its first element on.
-use Rattle.std.proofs.Common.{◌≡◌, ◌+◌, ◌<◌, ◌≤◌, ℕ, Bool, true, false, cond, not, ◌&&◌, nat_lt, nat_le, List, [], ◌∷◌, ◌++◌, Option, Some, None, length, get_or, take, drop, map, refl, sym, ap, ◌∙◌, subst, arith}
-use Rattle.std.proofs.lemmas.Bool.{and_right, and_from, and_parts, lt-ltb, le-ltb}
+use Rattle.std.proofs.Common.{◌≡◌, ◌+◌, ◌<◌, ◌≤◌, ℕ, Bool, true, false, cond, ◌&&◌, nat_lt, nat_le, List, [], ◌∷◌, ◌++◌, Some, None, length, get_or, take, drop, map, refl, sym, ap, ◌∙◌, subst}
+use Rattle.std.proofs.lemmas.Bool.{and_right, lt-ltb, le-ltb}
 use Rattle.std.proofs.lemmas.Option.{cond_some, none-some}
 use Rattle.std.proofs.lemmas.List.{map-append, drop_all, take_all}
 use Rattle.std.specs.List.{list_all}
 use Rattle.sim_design.specs.declared.WaveformElement.{WaveformElement}
-use Rattle.sim_design.specs.Design.{time_high, ascends_above, is_waveform}
+use Rattle.sim_design.specs.Design.{time_high, ascends_above}
 use Rattle.first_form.specs.declared.tree.Element.{Element}
 use Rattle.first_form.specs.declared.tree.Assignment.{Assignment}
-use Rattle.first_form.specs.Tree.{delay_of, transaction_of, waveform_of, is_bit, is_wave}
+use Rattle.first_form.specs.Tree.{delay_of, transaction_of, is_bit, is_wave}
 use Rattle.first_form.specs.Building.{is_transaction, transaction_from, waveform_from}
 use Rattle.first_form.proofs.Apart.{take_next, drop_next}
 

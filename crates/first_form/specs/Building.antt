@@ -1,5 +1,5 @@
 -- What the functions that test a file and build its design give.
-use Rattle.std.specs.Prelude.{◌≡◌, ◌≤◌, ℕ, ◌-◌, ◌^◌, List, Bool, true, false, ◌&&◌, nat_le, map, Option, Some, None, Result, Ok, Err, is_some, if◌then◌else◌}
+use Rattle.std.specs.Prelude.{◌≡◌, ℕ, List, Bool, true, false, ◌&&◌, nat_le, map, Option, Some, None, Result, Ok, Err, is_some, if◌then◌else◌}
 use Rattle.std.specs.Borrow.{Bor}
 use Rattle.std.specs.Ordering.{nat_cmp}
 use Rattle.std.specs.List.{list_all}
@@ -15,7 +15,7 @@ use Rattle.first_form.specs.declared.fault.FormError.TheVariants.{NotBuilt, NoMe
 use Rattle.first_form.specs.declared.tree.Element.{Element}
 use Rattle.first_form.specs.declared.tree.Assignment.{Assignment}
 use Rattle.first_form.specs.declared.tree.DesignFile.{DesignFile}
-use Rattle.first_form.specs.Tree.{number_in, delay_of, transaction_of, waveform_of, process_of, processes_of, design_of, are_distinct, is_bit, is_wave, is_assignment, is_right}
+use Rattle.first_form.specs.Tree.{number_in, delay_of, transaction_of, waveform_of, process_of, design_of, are_distinct, is_bit, is_wave, is_assignment, is_right}
 
 -- the numbers of signals by their names
 abbrev pub Numbers : Type 0

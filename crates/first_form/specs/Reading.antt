@@ -2,7 +2,6 @@
 use Rattle.std.specs.Prelude.{◌≡◌, ◌≤◌, ℕ, List, [], ◌∷◌, ◌++◌, length, zero, suc, Option, Some, None, Result, Ok, Err, if◌then◌else◌}
 use Rattle.std.specs.Option.{option_and_then, option_map_or}
 use Rattle.std.specs.Str.{bytes_eq}
-use Rattle.sim_design.specs.declared.Design.{Design}
 use Rattle.first_form.specs.declared.fault.FormError.{FormError}
 use Rattle.first_form.specs.declared.fault.FormError.TheVariants.{NotBuilt, NoMemory}
 use Rattle.first_form.specs.declared.token.Token.{Token}
@@ -10,7 +9,6 @@ use Rattle.first_form.specs.declared.token.Token.TheVariants.{After, Architectur
 use Rattle.first_form.specs.declared.tree.Element.{Element}
 use Rattle.first_form.specs.declared.tree.Assignment.{Assignment}
 use Rattle.first_form.specs.declared.tree.DesignFile.{DesignFile}
-
 use Rattle.first_form.specs.Lexis.{Tokens}
 
 infixl 10 ◌>>=◌

@@ -1,8 +1,7 @@
-use Rattle.std.specs.Prelude.{ℕ, ◌+◌, ◌-◌, ◌*◌, List, [], ◌∷◌, ◌++◌, Bool, true, false, ◌&&◌, ◌||◌, suc, nat_lt, ◌==◌, length, map, fold, Option, Some, None, is_some, unwrap_or, pos, if◌then◌else◌}
+use Rattle.std.specs.Prelude.{ℕ, ◌+◌, ◌-◌, ◌*◌, List, [], ◌∷◌, ◌++◌, Bool, true, false, ◌&&◌, ◌||◌, suc, ◌==◌, map, fold, Option, Some, None, is_some, unwrap_or, pos, if◌then◌else◌}
 use Rattle.std.specs.Option.{option_map}
 use Rattle.std.specs.List.{list_all, list_any, flat_map}
 use Rattle.std.specs.Str.{bytes_eq}
-use Rattle.sim_design.specs.declared.Instance.{Instance}
 use Rattle.sim_design.specs.declared.Net.{Net}
 use Rattle.sim_design.specs.declared.Process.{Process}
 use Rattle.sim_design.specs.declared.WaveformElement.{WaveformElement}

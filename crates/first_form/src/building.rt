@@ -139,7 +139,10 @@ fn number_of_name(numbers: &BTreeMap<&[u8], u32>, name: &[u8]) -> Option<u32>
 }
 
 /// The numbers of the signals by their names, which are to differ.
-fn numbers_of<'a>(alloc: Global, signals: &'a [Items<u8>]) -> Result<BTreeMap<&'a [u8], u32>, FormError>
+fn numbers_of<'a>(
+    alloc: Global,
+    signals: &'a [Items<u8>],
+) -> Result<BTreeMap<&'a [u8], u32>, FormError>
     requires { length signals.now < 2 ^ 32 }
     ensures { AreNumbered result signals.now }
 {

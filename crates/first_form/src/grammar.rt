@@ -19,9 +19,14 @@ fn signal_at(alloc: Global, tokens: &[Token]) -> Result<(Items<u8>, &[Token]), F
     ensures { Gives (λ x. (x.0, x.1.now)) result (reading.signal_at tokens.now) }
 {
     match tokens {
-        [Token::Signal, Token::Name(name), Token::Colon, Token::Bit, Token::Semicolon, rest @ ..] => {
-            Ok((copied(alloc, name)?, rest))
-        }
+        [
+            Token::Signal,
+            Token::Name(name),
+            Token::Colon,
+            Token::Bit,
+            Token::Semicolon,
+            rest @ ..,
+        ] => { Ok((copied(alloc, name)?, rest)) }
         _ => Err(FormError::NotBuilt),
     }
 }
@@ -31,7 +36,13 @@ fn element_at(alloc: Global, tokens: &[Token]) -> Result<(Element, &[Token]), Fo
     ensures { Gives (λ x. (x.0, x.1.now)) result (reading.element_at tokens.now) }
 {
     match tokens {
-        [Token::Character(literal), Token::After, Token::Number(digits), Token::Time(unit), rest @ ..] => {
+        [
+            Token::Character(literal),
+            Token::After,
+            Token::Number(digits),
+            Token::Time(unit),
+            rest @ ..,
+        ] => {
             let digits = copied(alloc, digits)?;
             Ok((
                 Element {
@@ -82,9 +93,14 @@ fn entity_at(alloc: Global, tokens: &[Token]) -> Result<(Items<u8>, &[Token]), F
     ensures within { IfOk result (λ x. length x.1.now ≤ length tokens.now) }
 {
     match tokens {
-        [Token::Entity, Token::Name(name), Token::Is, Token::End, Token::Semicolon, rest @ ..] => {
-            Ok((copied(alloc, name)?, rest))
-        }
+        [
+            Token::Entity,
+            Token::Name(name),
+            Token::Is,
+            Token::End,
+            Token::Semicolon,
+            rest @ ..,
+        ] => { Ok((copied(alloc, name)?, rest)) }
         _ => Err(FormError::NotBuilt),
     }
 }
@@ -128,7 +144,10 @@ fn signals_at(alloc: Global, tokens: &[Token]) -> Result<(Items<Items<u8>>, &[To
     Ok((items, rest))
 }
 
-fn next_elements_at(alloc: Global, tokens: &[Token]) -> Result<(Items<Element>, &[Token]), FormError>
+fn next_elements_at(
+    alloc: Global,
+    tokens: &[Token],
+) -> Result<(Items<Element>, &[Token]), FormError>
     ensures read { Gives (λ x. (x.0, x.1.now)) result (Some (many reading.next_element_at (length tokens.now) tokens.now)) }
     ensures within { IfOk result (λ x. length x.0 ≤ length tokens.now) }
 {
@@ -165,7 +184,10 @@ fn assignment_at(alloc: Global, tokens: &[Token]) -> Result<(Assignment, &[Token
     ))
 }
 
-fn assignments_at(alloc: Global, tokens: &[Token]) -> Result<(Items<Assignment>, &[Token]), FormError>
+fn assignments_at(
+    alloc: Global,
+    tokens: &[Token],
+) -> Result<(Items<Assignment>, &[Token]), FormError>
     ensures read { Gives (λ x. (x.0, x.1.now)) result (Some (many reading.assignment_at (length tokens.now) tokens.now)) }
     ensures within { IfOk result (λ x. length x.0 ≤ length tokens.now) }
 {
@@ -194,7 +216,14 @@ fn architecture_at<'a>(
     ensures within { IfOk result (λ x. length x.1.now ≤ length tokens.now) }
 {
     match tokens {
-        [Token::Architecture, Token::Name(name), Token::Of, Token::Name(of_entity), Token::Is, rest @ ..] => {
+        [
+            Token::Architecture,
+            Token::Name(name),
+            Token::Of,
+            Token::Name(of_entity),
+            Token::Is,
+            rest @ ..,
+        ] => {
             if of_entity.as_slice() != entity {
                 return Err(FormError::NotBuilt);
             }

@@ -2,7 +2,8 @@ use super::*;
 use sim_design::Design;
 use std::test::Fail;
 
-const PULSE: &str = "entity top is end;\narchitecture a of top is\n  signal s : bit;\nbegin\n  s <= '1' after 2 ns, '0' after 5 ns;\nend;\n";
+const PULSE: &str =
+    "entity top is end;\narchitecture a of top is\n  signal s : bit;\nbegin\n  s <= '1' after 2 ns, '0' after 5 ns;\nend;\n";
 
 /// Texts of the form, and what they stand for: the instance, the nets, and for each process its
 /// target and its waveform.
@@ -71,7 +72,10 @@ const BODIES: [(&str, &str); 28] = [
     ("signal s, t : bit;", ""),
     ("signal s : bit", ""),
     ("signal s : bit;", "t <= '1' after 1 fs;"),
-    ("signal s : bit;", "s <= '1' after 1 fs; S <= '0' after 2 fs;"),
+    (
+        "signal s : bit;",
+        "s <= '1' after 1 fs; S <= '0' after 2 fs;",
+    ),
     ("signal s : bit;", "s <= ;"),
     ("signal s : bit;", "s <= '2' after 1 fs;"),
     ("signal s : bit;", "s <= '01' after 1 fs;"),
@@ -87,7 +91,10 @@ const BODIES: [(&str, &str); 28] = [
     ("signal s : bit;", "s <= '1' after 1 fs '0' after 2 fs;"),
     ("signal s : bit;", "s <= '1' after 1 fs"),
     ("signal s : bit;", "s <= '1' after 1 ns, '0' after 1000 ps;"),
-    ("signal s : bit;", "s <= '1' after 2 fs, '0' after 3 fs, '1' after 2 fs;"),
+    (
+        "signal s : bit;",
+        "s <= '1' after 2 fs, '0' after 3 fs, '1' after 2 fs;",
+    ),
     ("signal s : bit;", "s <= '1' after 9223372036854775808 fs;"),
     ("signal s : bit;", "s <= '1' after 154 min;"),
     ("signal s : bit;", "s <= '1' after 18446744073709551617 fs;"),
@@ -138,7 +145,9 @@ fn shown(rt: &HostRuntime, design: &Design) -> Result<String, Fail> {
 fn reads_the_form(rt: HostRuntime) -> Result<(), Fail> {
     for (text, want) in FORMS {
         assert!(rt; text.len() <= 1_048_576);
-        let design = read_first_form(rt.alloc(), text.as_bytes()).ok().ok_or(text)?;
+        let design = read_first_form(rt.alloc(), text.as_bytes())
+            .ok()
+            .ok_or(text)?;
         assert_eq!(rt; shown(&rt, &design)?.as_str(), want);
     }
     Ok(())
@@ -148,12 +157,26 @@ fn reads_the_form(rt: HostRuntime) -> Result<(), Fail> {
 fn refuses_every_other_text(rt: HostRuntime) -> Result<(), Fail> {
     for text in WHOLE {
         assert!(rt; text.len() <= 1_048_576);
-        assert!(rt; matches!(read_first_form(rt.alloc(), text.as_bytes()), Err(FormError::NotBuilt)), "{text}");
+        assert!(rt;
+            matches!(
+                read_first_form(rt.alloc(), text.as_bytes()),
+                Err(FormError::NotBuilt)
+            ),
+            "{text}"
+        );
     }
     for (signals, statements) in BODIES {
-        let text = format!(in rt.alloc(); "entity e is end; architecture a of e is {signals} begin {statements} end;")?;
+        let text = format!(in rt.alloc();
+            "entity e is end; architecture a of e is {signals} begin {statements} end;"
+        )?;
         assert!(rt; text.len() <= 1_048_576);
-        assert!(rt; matches!(read_first_form(rt.alloc(), text.as_bytes()), Err(FormError::NotBuilt)), "{text}");
+        assert!(rt;
+            matches!(
+                read_first_form(rt.alloc(), text.as_bytes()),
+                Err(FormError::NotBuilt)
+            ),
+            "{text}"
+        );
     }
     Ok(())
 }

@@ -1,4 +1,3 @@
-use Rattle.std.proofs.Common.{arith}
 use Rattle.first_form.proofs.Times.{too_large}
 use Rattle.first_form.proofs.building.number_of.Goals as goal
 

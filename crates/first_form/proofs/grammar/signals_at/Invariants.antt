@@ -1,4 +1,3 @@
-use Rattle.std.proofs.Common.{◌-◌, ◌≤◌, length}
 use Rattle.first_form.specs.Reading.{signal_at}
 use Rattle.first_form.proofs.Many.{IsSoFar}
 use Rattle.first_form.proofs.grammar.signals_at.Given as goal

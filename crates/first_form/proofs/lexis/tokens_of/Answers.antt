@@ -1,4 +1,4 @@
-use Rattle.first_form.proofs.TokenLoop.{begins, turns, ends, stops, is_full}
+use Rattle.first_form.proofs.TokenLoop.{turns, ends, stops, is_full}
 use Rattle.first_form.proofs.lexis.tokens_of.Goals as goal
 
 pub loop-rest-preserved : goal.loop-rest-preserved

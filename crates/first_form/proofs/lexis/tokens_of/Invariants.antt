@@ -1,5 +1,4 @@
 use Rattle.std.proofs.Common.{length}
-use Rattle.first_form.specs.Lexis.{behind_separators}
 use Rattle.first_form.proofs.TokenLoop.{IsSoFar}
 use Rattle.first_form.proofs.lexis.tokens_of.Given as goal
 

@@ -1,0 +1,9 @@
+pub mod Apart
+pub mod Laws
+pub mod Many
+pub mod Names
+pub mod Productions
+pub mod Targets
+pub mod Times
+pub mod TokenLoop
+pub mod Waves

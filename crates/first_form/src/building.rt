@@ -1,6 +1,6 @@
-ghost use Rattle.std.specs.Prelude.{◌≡◌, ◌+◌, ◌-◌, ◌*◌, ◌^◌, ◌<◌, ◌≤◌, ℕ, true, false, not, List, Some, length, map, slice_index_or, slice_set, vec_len};
+ghost use Rattle.std.specs.Prelude.{◌≡◌, ◌+◌, ◌-◌, ◌*◌, ◌^◌, ◌<◌, ◌≤◌, ℕ, true, false, not, List, Some, length, map, IfOk, slice_index_or, slice_set, vec_len};
 ghost use Rattle.std.specs.Option.{SomeIff};
-ghost use Rattle.sim_design.specs.Design.{time_high};
+ghost use Rattle.sim_design.specs.Design.{time_high, IsNumbered};
 ghost use Rattle.first_form.specs.Lexis as lexis;
 ghost use Rattle.first_form.specs.Tree as tree;
 ghost use Rattle.first_form.specs.Building as building;
@@ -212,8 +212,10 @@ fn processes_of(
 
 /// The design of a file, if its conditions hold.
 pub fn design_of(alloc: Global, file: &DesignFile) -> Result<Design, FormError>
-    requires { length file.now.signals < 2 ^ 32 }
-    ensures { Gives (λ d. d) result (building.design_from file.now) }
+    requires signals { length file.now.signals < 2 ^ 32 }
+    requires assignments { length file.now.assignments < 2 ^ 32 }
+    ensures read { Gives (λ d. d) result (building.design_from file.now) }
+    ensures numbered { IfOk result (λ d. IsNumbered d) }
 {
     let signals = file.signals.as_slice();
     let numbers = match numbers_of(alloc, signals) {

@@ -16,7 +16,8 @@ fn copied(alloc: Global, name: &Items<u8>) -> Result<Items<u8>, FormError>
 
 #[tactic(auto, unfolding(crate::specs::Reading::signal_at))]
 fn signal_at(alloc: Global, tokens: &[Token]) -> Result<(Items<u8>, &[Token]), FormError>
-    ensures { Gives (λ x. (x.0, x.1.now)) result (reading.signal_at tokens.now) }
+    ensures read { Gives (λ x. (x.0, x.1.now)) result (reading.signal_at tokens.now) }
+    ensures rest { IfOk result (λ x. length x.1.now ≤ length tokens.now) }
 {
     match tokens {
         [
@@ -107,7 +108,8 @@ fn entity_at(alloc: Global, tokens: &[Token]) -> Result<(Items<u8>, &[Token]), F
 
 #[tactic(auto, unfolding(crate::specs::Reading::begin_at))]
 fn begin_at(tokens: &[Token]) -> Result<&[Token], FormError>
-    ensures { Gives (λ x. x.now) result (reading.begin_at tokens.now) }
+    ensures read { Gives (λ x. x.now) result (reading.begin_at tokens.now) }
+    ensures rest { IfOk result (λ x. length x.now ≤ length tokens.now) }
 {
     match tokens {
         [Token::Begin, rest @ ..] => Ok(rest),
@@ -128,6 +130,7 @@ fn end_at(tokens: &[Token]) -> Result<(), FormError>
 fn signals_at(alloc: Global, tokens: &[Token]) -> Result<(Items<Items<u8>>, &[Token]), FormError>
     ensures read { Gives (λ x. (x.0, x.1.now)) result (Some (many reading.signal_at (length tokens.now) tokens.now)) }
     ensures within { IfOk result (λ x. length x.0 ≤ length tokens.now) }
+    ensures rest { IfOk result (λ x. length x.1.now ≤ length tokens.now) }
 {
     let mut items = Items::new(alloc);
     let mut rest = tokens;
@@ -237,7 +240,8 @@ fn architecture_at<'a>(
 #[tactic(auto, unfolding(crate::specs::Reading::file_at))]
 pub fn file_at(alloc: Global, tokens: &[Token]) -> Result<DesignFile, FormError>
     ensures read { Gives (λ f. f) result (reading.file_at tokens.now) }
-    ensures within { IfOk result (λ f. length f.signals ≤ length tokens.now) }
+    ensures signals { IfOk result (λ f. length f.signals ≤ length tokens.now) }
+    ensures assignments { IfOk result (λ f. length f.assignments ≤ length tokens.now) }
 {
     let (entity, rest) = entity_at(alloc, tokens)?;
     let (architecture, rest) = architecture_at(alloc, entity.as_slice(), rest)?;

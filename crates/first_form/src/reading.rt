@@ -1,6 +1,6 @@
 ghost use Rattle.std.specs.Prelude.{◌≡◌, ◌≤◌, IfOk, IsErrOf, length};
 ghost use Rattle.sim_design.specs.declared.Design.{Design};
-ghost use Rattle.sim_design.specs.Design.{IsSound};
+ghost use Rattle.sim_design.specs.Design.{IsSound, IsNumbered};
 ghost use Rattle.first_form.specs.FirstForm.{FirstForm, IsReading};
 
 use crate::building::design_of;
@@ -12,7 +12,8 @@ use std::alloc::Global;
 
 fn read(alloc: Global, text: &[u8]) -> Result<Design, FormError>
     requires { length text.now ≤ 1048576 }
-    ensures { IsReading result text.now }
+    ensures read { IsReading result text.now }
+    ensures numbered { IfOk result (λ d. IsNumbered d) }
 {
     let tokens = match tokens_of(alloc, text) {
         Ok(tokens) => tokens,
@@ -39,6 +40,7 @@ pub fn read_first_form(alloc: Global, text: &[u8]) -> Result<Design, FormError>
     // What is refused is not of the form.
     ensures none { IsErrOf result FormError.NotBuilt → (d : Design) → FirstForm text.now d → ⊥ }
     ensures sound { IfOk result (λ d. IsSound d) }
+    ensures numbered { IfOk result (λ d. IsNumbered d) }
 {
     read(alloc, text)
 }

@@ -40,22 +40,22 @@ section_left d plan s t (k ∷ ks) added es end goes done rest =
 pub section_extends : (old new : World) (h : SectionDone old new) → Extends old h.added new
 section_extends old new h =
     λ es end left.
-      let next : World = record old { state = new.state; journal = old.journal ++ h.added; tasks = [] } in
-      let left : left_by old.ended next es end = subst (λ (w : World). left_by w.ended w es end) h.after left in
-      let left : IsLeft old.design old.plan [] new.state es end = subst (λ (o : Option End). left_by o next es end) h.running left in
-      subst (λ (o : Option End). left_by o old (h.added ++ es) end) (sym h.running)
-        (section_left old.design old.plan old.state new.state old.tasks h.added es end h.goes_on h.done (rest_of_left old.design old.plan new.state es end left))
+    let next : World = record old { state = new.state; journal = old.journal ++ h.added; tasks = [] } in
+    let left : left_by old.ended next es end = subst (λ (w : World). left_by w.ended w es end) h.after left in
+    let left : IsLeft old.design old.plan [] new.state es end = subst (λ (o : Option End). left_by o next es end) h.running left in
+    subst (λ (o : Option End). left_by o old (h.added ++ es) end) (sym h.running)
+    (section_left old.design old.plan old.state new.state old.tasks h.added es end h.goes_on h.done (rest_of_left old.design old.plan new.state es end left))
 
 pub end_extends : (old new : World) (e : End) (h : EndReached old new e) → Extends old (entries.Ended e ∷ []) new
 end_extends old new e h =
     λ es end left.
-      let next : World = record old { journal = old.journal ++ entries.Ended e ∷ []; ended = Some e } in
-      let left : (es ≡ []) × (end ≡ e) = subst (λ (w : World). left_by w.ended w es end) h.after left in
-      let rest : IsRest old.design old.plan old.state (entries.Ended e ∷ es) end =
-          (zero, (h.applies ∙ ap (λ (x : End). Some x) (sym left.1), rw (left.0, left.1) refl)) in
-      let all : IsLeft old.design old.plan old.tasks old.state (entries.Ended e ∷ es) end =
-          subst (λ (ks : List Task). IsLeft old.design old.plan ks old.state (entries.Ended e ∷ es) end) (sym h.between) (left_of_rest old.design old.plan old.state (entries.Ended e ∷ es) end rest) in
-      subst (λ (o : Option End). left_by o old (entries.Ended e ∷ es) end) (sym h.running) all
+    let next : World = record old { journal = old.journal ++ entries.Ended e ∷ []; ended = Some e } in
+    let left : (es ≡ []) × (end ≡ e) = subst (λ (w : World). left_by w.ended w es end) h.after left in
+    let rest : IsRest old.design old.plan old.state (entries.Ended e ∷ es) end =
+    (zero, (h.applies ∙ ap (λ (x : End). Some x) (sym left.1), rw (left.0, left.1) refl)) in
+    let all : IsLeft old.design old.plan old.tasks old.state (entries.Ended e ∷ es) end =
+    subst (λ (ks : List Task). IsLeft old.design old.plan ks old.state (entries.Ended e ∷ es) end) (sym h.between) (left_of_rest old.design old.plan old.state (entries.Ended e ∷ es) end rest) in
+    subst (λ (o : Option End). left_by o old (entries.Ended e ∷ es) end) (sym h.running) all
 
 -- what follows the first world up to an end is a run
 pub run_of : (d : Design) (plan : Plan) (es : List Entry) (w : World) (e : End) → Extends (first_world d plan) es w → w.ended ≡ Some e → IsRun d plan es e

@@ -51,7 +51,7 @@ cycled_done old next running between is below =
       added = time_entry t ∷ es;
       done = subst (λ (ks : List Task). Tasks old.design (section ks) old.state (time_entry t ∷ es) u) (sym between) (cycle_tasks old.design old.state next is);
       after =
-        ap (λ (j : List Entry). record old { state = u; journal = j }) (append_assoc old.journal (time_entry t ∷ []) es)
+          ap (λ (j : List Entry). record old { state = u; journal = j }) (append_assoc old.journal (time_entry t ∷ []) es)
           ∙ ap (λ (ks : List Task). record old { state = u; journal = old.journal ++ (time_entry t ∷ es); tasks = ks }) between;
     }
 

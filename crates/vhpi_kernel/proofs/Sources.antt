@@ -63,7 +63,7 @@ one_source net (p ∷ ps) [] own size = absurd (omega (arith, size))
 one_source net (p ∷ ps) (w ∷ ws) own size =
     let rest : (is_target p.target ps ≡ false) × (have_own_targets ps ≡ true) = own_rest (is_target p.target ps) (have_own_targets ps) own in
     let none : nat_eq p.target net ≡ true → sources net ps ws ≡ [] =
-        λ e. no_source net ps ws (subst (λ (n : ℕ). is_target n ps ≡ false) (eqb-true p.target net e) rest.0) in
+    λ e. no_source net ps ws (subst (λ (n : ℕ). is_target n ps ≡ false) (eqb-true p.target net e) rest.0) in
     one_by (nat_eq p.target net) w ws (sources net ps ws) (driver_of net ps) none (one_source net ps ws rest.1 (omega (arith, size)))
 
 -- so its driving value is the one that the index gives

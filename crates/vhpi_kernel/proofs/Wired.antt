@@ -45,16 +45,16 @@ driver_within net (p ∷ ps) = within_by (nat_eq p.target net) (driver_of net ps
 pub drivers_within : (d : Design) (index : List (Option ℕ)) (waves : List Waveform) (nets size : ℕ) → IsWired d index waves → nets ≡ length d.nets → size ≡ length waves → (e : ℕ) → e < nets → IsWithin (slice_index_or index e None) size
 drivers_within d index waves nets size wired is count =
     λ e inside.
-      let here : e < length d.nets = omega (arith, is) in
-      let driver : slice_index_or index e None ≡ driver_of e d.processes = wired.drivers.1 e here in
-      let total : length d.processes ≡ size = sym (count ∙ wired.waves_len) in
-      rw driver (subst (λ (n : ℕ). IsWithin (driver_of e d.processes) n) total (driver_within e d.processes))
+    let here : e < length d.nets = omega (arith, is) in
+    let driver : slice_index_or index e None ≡ driver_of e d.processes = wired.drivers.1 e here in
+    let total : length d.processes ≡ size = sym (count ∙ wired.waves_len) in
+    rw driver (subst (λ (n : ℕ). IsWithin (driver_of e d.processes) n) total (driver_within e d.processes))
 
 -- the values that the index gives are those that the sources give
 pub driving_same : (d : Design) (index : List (Option ℕ)) (waves : List Waveform) → IsWired d index waves → table (length d.nets) (indexed_value d.nets index waves) ≡ table (length d.nets) (driving_value d waves)
 driving_same d index waves wired =
     same_table (length d.nets) (indexed_value d.nets index waves) (driving_value d waves)
-      (λ e inside. ap (value_by (default_at d e) waves) (wired.drivers.1 e inside) ∙ sym (driving_is d waves e (own_targets d wired.sound) wired.waves_len))
+    (λ e inside. ap (value_by (default_at d e) waves) (wired.drivers.1 e inside) ∙ sym (driving_is d waves e (own_targets d wired.sound) wired.waves_len))
 
 chosen : (active : List Bool) (ws : List Waveform) (o : Option ℕ) (a b v : ℤ) → if◌then◌else◌ {A = ℤ} (active_by active o) (value_by a ws o) v ≡ if◌then◌else◌ {A = ℤ} (active_by active o) (value_by b ws o) v
 chosen active ws None a b v = refl
@@ -66,7 +66,7 @@ updated_at d now index waves old wired e inside =
     let driver : slice_index_or index e None ≡ driver_of e d.processes = wired.drivers.1 e inside in
     let size : length (map (at_time now) waves) ≡ length d.processes = length-map waves (at_time now) ∙ wired.waves_len in
     rw (driver, is_sourced_is d now waves e own wired.waves_len, driving_is d (map (at_time now) waves) e own size)
-      (chosen (map (is_active now) waves) (map (at_time now) waves) (driver_of e d.processes) (pos 0) (default_at d e) (value_at old e))
+    (chosen (map (is_active now) waves) (map (at_time now) waves) (driver_of e d.processes) (pos 0) (default_at d e) (value_at old e))
 
 pub updated_same : (d : Design) (now : ℕ) (index : List (Option ℕ)) (waves next : List Waveform) (active : List Bool) (old : List ℤ) → IsWired d index waves → next ≡ map (at_time now) waves → active ≡ map (is_active now) waves → length old ≡ length d.nets → table (length old) (updated_value_by index active next old) ≡ table (length d.nets) (updated_value d now old waves)
 updated_same d now index waves next active old wired is acts size =

@@ -3,11 +3,9 @@ ghost use Rattle.std.specs.Prelude.{◌≡◌, ◌<◌, ◌^◌, ℕ, length, Li
 ghost use Rattle.std.specs.List.{list_all};
 ghost use Rattle.vhpi_kernel.specs.Index.{driver_of, noted_at, IsIndex};
 
-use std::alloc::Global;
-
-use sim_design::Process;
-
 use crate::NoMemory;
+use sim_design::Process;
+use std::alloc::Global;
 
 // Makes the index of `nets` nets.
 pub(crate) fn index_drivers(

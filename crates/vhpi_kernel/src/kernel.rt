@@ -8,18 +8,16 @@ ghost use Rattle.sim_cycle.specs.Run.{end_at};
 ghost use Rattle.sim_cycle.specs.World.{World, first_world};
 ghost use Rattle.vhpi_kernel.specs.Advance.{Advances, Falls};
 
-use std::alloc::Global;
-use std::marker::Model;
-
-use sim_cycle::Plan;
-use sim_design::Design;
-use sim_journal::{End, Entry};
-use sim_waves::Wave;
-
 use crate::index::index_drivers;
 use crate::signals::{default_values, first_waves, next_time};
 use crate::steps::{computed_values, run_processes, update_signals};
 use crate::{NoMemory, Step};
+use sim_cycle::Plan;
+use sim_design::Design;
+use sim_journal::{End, Entry};
+use sim_waves::Wave;
+use std::alloc::Global;
+use std::marker::Model;
 
 // The time now in femtoseconds, how many delta cycles there were at it, and the cycle's number.
 #[derive(Clone, Copy, Drop)]
@@ -56,13 +54,14 @@ impl Model for Kernel {
     ghost Value = { World };
 
     ghost view = { λ k. record {
-        design = k.design;
-        plan = k.plan;
-        state = record { now = k.clock.now; delta = k.clock.delta; cycle = k.clock.cycle; values = k.values.items; waves = k.waves.items };
-        journal = k.journal.items;
-        tasks = tasks_left k.is_begun;
-        ended = k.ended;
-        failed = k.failed } };
+      design = k.design;
+      plan = k.plan;
+      state = record { now = k.clock.now; delta = k.clock.delta; cycle = k.clock.cycle; values = k.values.items; waves = k.waves.items };
+      journal = k.journal.items;
+      tasks = tasks_left k.is_begun;
+      ended = k.ended;
+      failed = k.failed;
+    } };
 
     ghost invariant = { λ k. IsReady k.design k.clock.now k.clock.delta k.clock.cycle k.values.items k.waves.items k.index.items k.is_begun };
 }

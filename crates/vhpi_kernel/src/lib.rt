@@ -9,9 +9,8 @@ mod steps;
 
 pub use kernel::Kernel;
 pub use sim_cycle::Plan;
-pub use sim_memory::NoMemory;
-
 use sim_journal::End;
+pub use sim_memory::NoMemory;
 
 /// How far a run has come with a call of `Kernel::advance`.
 #[derive(Clone, Copy, Debug, PartialEq, Eq)]

@@ -6,13 +6,11 @@ ghost use Rattle.sim_waves.specs.Waveform.{is_active, at_time, is_rising, IsWith
 ghost use Rattle.sim_cycle.specs.State.{sooner, next_of, table, transaction, ran, all_ran, event_of, first_wave};
 ghost use Rattle.vhpi_kernel.specs.Index.{IsWithin, value_by, indexed_value, updated_by, updated_value_by, events_by};
 
-use std::alloc::Global;
-
+use crate::NoMemory;
 use sim_design::{Design, Net, Process, WaveformElement};
 use sim_journal::Entry;
 use sim_waves::{DelayMode, Transaction, Wave};
-
-use crate::NoMemory;
+use std::alloc::Global;
 
 fn sooner_of(a: Option<u64>, b: Option<u64>) -> Option<u64>
     ensures { result ≡ sooner a b }
@@ -80,13 +78,7 @@ pub(crate) fn activate_all(
     Ok(())
 }
 
-fn updated(
-    driver: Option<u32>,
-    active: &[bool],
-    waves: &[Wave],
-    old: &[i64],
-    net: usize,
-) -> i64
+fn updated(driver: Option<u32>, active: &[bool], waves: &[Wave], old: &[i64], net: usize) -> i64
     requires waves { IsWithin driver (length waves.now) }
     requires active { IsWithin driver (length active.now) }
     requires net { net < length old.now }
@@ -181,12 +173,7 @@ fn transactions(
 }
 
 // Runs a process to its wait, over the waveform of its driver.
-fn run(
-    alloc: Global,
-    now: u64,
-    process: &Process,
-    wave: &mut Wave,
-) -> Result<(), NoMemory>
+fn run(alloc: Global, now: u64, process: &Process, wave: &mut Wave) -> Result<(), NoMemory>
     requires now { now ≤ time_high }
     requires waveform { IsTrue (is_waveform process.now.waveform) }
     ensures { OnOk result (wave.new ≡ ran now process.now wave.old) }

@@ -5,14 +5,12 @@ ghost use Rattle.sim_waves.specs.Waveform.{at_time};
 ghost use Rattle.sim_cycle.specs.State.{table, driving_value, updated_value, events, all_ran};
 ghost use Rattle.vhpi_kernel.specs.Kernel.{IsWired};
 
-use std::alloc::Global;
-
+use crate::NoMemory;
+use crate::signals::{activate_all, driving_values, run_all, settle};
 use sim_design::Design;
 use sim_journal::Entry;
 use sim_waves::Wave;
-
-use crate::NoMemory;
-use crate::signals::{activate_all, driving_values, run_all, settle};
+use std::alloc::Global;
 
 /// The value that drives each net, with the waveforms as they are.
 pub(crate) fn computed_values(

@@ -12,7 +12,7 @@ settle-requires-clause-waves c =
 pub returns-clause-values : goal.returns-clause-values
 returns-clause-values c =
     c.in_ok-settle.ensures.values
-      ∙ updated_same c.args.design.now c.args.now c.args.index.now c.args.waves.now c.activate_all.new.waves c.as_slice.result.now c.args.old.now c.requires.wired c.in_ok-activate_all.ensures.waves (c.as_slice.ensures.value ∙ c.in_ok-activate_all.ensures.active) c.requires.values
+    ∙ updated_same c.args.design.now c.args.now c.args.index.now c.args.waves.now c.activate_all.new.waves c.as_slice.result.now c.args.old.now c.requires.wired c.in_ok-activate_all.ensures.waves (c.as_slice.ensures.value ∙ c.in_ok-activate_all.ensures.active) c.requires.values
 
 pub returns-clause-len : goal.returns-clause-len
 returns-clause-len c =
@@ -21,4 +21,4 @@ returns-clause-len c =
 pub returns-clause-journal : goal.returns-clause-journal
 returns-clause-journal c =
     c.in_ok-settle.ensures.journal
-      ∙ ap (λ es. c.args.journal.now.items ++ es) (events_same (length c.args.old.now) (length c.args.design.now.nets) c.args.old.now c.settle.new.values.items (updated_value_by c.args.index.now c.as_slice.result.now c.activate_all.new.waves c.args.old.now) c.requires.values c.in_ok-settle.ensures.values)
+    ∙ ap (λ es. c.args.journal.now.items ++ es) (events_same (length c.args.old.now) (length c.args.design.now.nets) c.args.old.now c.settle.new.values.items (updated_value_by c.args.index.now c.as_slice.result.now c.activate_all.new.waves c.args.old.now) c.requires.values c.in_ok-settle.ensures.values)

@@ -1,13 +1,8 @@
 -- The errors of a host.
-use Rattle.sim_host.specs.declared.errors.NoMemory.{NoMemory}
 use Rattle.sim_host.specs.declared.errors.HostError.{HostError}
 use Rattle.sim_host.specs.declared.errors.HostError.TheVariants as failure
 use Rattle.sim_host.specs.declared.errors.ReadError.{ReadError}
 use Rattle.sim_host.specs.declared.errors.ReadError.TheVariants as refusal
-
--- the one value of `NoMemory`
-abbrev pub no_memory : NoMemory
-no_memory = record {}
 
 -- a fault of the host, as `read_all` answers it
 abbrev pub read_error_of : HostError → ReadError

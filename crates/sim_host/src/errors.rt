@@ -1,31 +1,11 @@
 ghost use Rattle.std.specs.Prelude.{◌≡◌};
-ghost use Rattle.sim_host.specs.Errors.{no_memory, read_error_of};
+ghost use Rattle.sim_host.specs.Errors.{read_error_of};
 ghost use Rattle.sim_host.specs.declared.errors.HostError.TheVariants as failure;
 ghost use Rattle.sim_host.specs.declared.errors.ReadError.TheVariants as refusal;
 
+use sim_memory::NoMemory;
 use std::alloc::{AllocError, AllocFailed};
 use thiserror::Error;
-
-/// Memory ran out.
-#[derive(Clone, Copy, Debug, PartialEq, Eq, Error)]
-#[error("no memory")]
-pub struct NoMemory;
-
-impl From<AllocError> for NoMemory {
-    ghost from_gives = { λ _ e. e ≡ no_memory };
-
-    fn from(_: AllocError) -> NoMemory {
-        NoMemory
-    }
-}
-
-impl<T: Drop> From<AllocFailed<T>> for NoMemory {
-    ghost from_gives = { λ _ e. e ≡ no_memory };
-
-    fn from(_: AllocFailed<T>) -> NoMemory {
-        NoMemory
-    }
-}
 
 /// Why a call of a host failed.
 #[derive(Clone, Copy, Debug, PartialEq, Eq, Error)]

@@ -13,11 +13,12 @@ mod system;
 mod writing;
 
 pub use channels::Channel;
-pub use errors::{HostError, NoMemory, ReadError};
+pub use errors::{HostError, ReadError};
 pub use hosts::Host;
 pub use memory::{MemoryHost, memory_host, memory_host_without_faults};
 pub use names::{Asked, Name};
 pub use reading::read_all;
+pub use sim_memory::NoMemory;
 use std::alloc::Global;
 pub use system::FileHost;
 pub use writing::write_all;

@@ -3,9 +3,10 @@ ghost use Rattle.sim_host.specs.Host.{FailsToCreate, FailsToStart, HasCause, Has
 ghost use Rattle.sim_host.specs.Memory.{CountsCall, FaultsWhere, IsListed, IsMissing, counted_up, entries, fresh, seen_of, text_at};
 
 use crate::channels::Channel;
-use crate::errors::{HostError, NoMemory};
+use crate::errors::HostError;
 use crate::hosts::Host;
 use crate::names::{Asked, Name};
+use sim_memory::NoMemory;
 use std::alloc::Global;
 use std::marker::Model;
 

@@ -1,6 +1,6 @@
 ghost use Rattle.std.specs.Prelude.{◌≡◌, ◌↔◌, IfOk, IsTrue, bytes_eq};
 
-use crate::errors::NoMemory;
+use sim_memory::NoMemory;
 use std::alloc::Global;
 use std::marker::Model;
 

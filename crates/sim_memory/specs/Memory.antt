@@ -1,0 +1,5 @@
+use Rattle.sim_memory.specs.declared.NoMemory.{NoMemory}
+
+-- the one value of `NoMemory`
+abbrev pub no_memory : NoMemory
+no_memory = record {}

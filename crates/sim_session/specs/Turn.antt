@@ -11,6 +11,7 @@ use Rattle.sim_host.specs.declared.channels.Channel.TheVariants as channel
 use Rattle.vhpi_kernel.specs.declared.Step.{Step}
 use Rattle.vhpi_kernel.specs.declared.Step.TheVariants as steps
 use Rattle.sim_session.specs.declared.fault.SessionFault.{SessionFault}
+use Rattle.sim_session.specs.declared.fault.SessionFault.TheVariants as fault
 
 -- after a section the run has ended so, or fewer sections are left
 abbrev pub IsAfter : Step → World → World → Type 0
@@ -38,6 +39,7 @@ pub record TurnCut (old : World) (was now : Seen) : Type 0 where
 
 abbrev pub Turns : Result Step SessionFault → World → World → Seen → Seen → Type 0
 Turns (Ok step) old new was now = Turned step old new was now
+Turns (Err fault.NotBuilt) old new was now = ⊥
 Turns (Err e) old new was now = TurnCut old was now
 
 -- all entries of a run so far were written
@@ -65,4 +67,5 @@ pub record PartWritten (design : Design) (plan : Plan) (was now : Seen) : Type 0
 
 abbrev pub RunsFrom : Result End SessionFault → Design → Plan → Seen → Seen → Type 0
 RunsFrom (Ok end) design plan was now = AllWritten design plan end was now
+RunsFrom (Err fault.NotBuilt) design plan was now = ⊥
 RunsFrom (Err e) design plan was now = PartWritten design plan was now

@@ -52,8 +52,10 @@ fn run<H: Host>(alloc: Global, kernel: &mut Kernel, host: &mut H) -> Result<End,
     ensures cause { HasSessionCause (H.faults host.old) (H.faults host.new) result }
 {
     'sections: loop {
-        if let Step::Ended(end) = turn(alloc, kernel, host)? {
-            return Ok(end);
+        match turn(alloc, kernel, host) {
+            Ok(Step::CycleEnd) => {}
+            Ok(Step::Ended(end)) => return Ok(end),
+            Err(fault) => return Err(fault),
         }
     }
 }

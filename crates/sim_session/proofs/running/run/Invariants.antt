@@ -1,0 +1,12 @@
+use Rattle.std.proofs.Common.{◌≡◌}
+use Rattle.sim_cycle.specs.World.{sections_left}
+use Rattle.sim_session.specs.Turn.{SoFar}
+use Rattle.sim_session.proofs.running.run.Given as goal
+
+abbrev pub invariant-sections : goal.invariant-sections
+invariant-sections g l =
+    SoFar l.fn.kernel.design l.fn.kernel.plan l.kernel (g.H.Host.seen l.initial.host) (g.H.Host.seen l.host)
+    × (g.H.Host.faults l.host ≡ g.H.Host.faults l.initial.host)
+
+abbrev pub decreases-sections : goal.decreases-sections
+decreases-sections g l = sections_left l.kernel

@@ -1,0 +1,202 @@
+use Rattle.std.specs.Prelude.{◌≡◌, ℕ, ◌<◌, ◌≤◌, List, ◌++◌, take, length, Option, Some, None, Result, Ok, Err, ◌⊎◌, codes}
+use Rattle.sim_design.specs.declared.Design.{Design}
+use Rattle.first_form.specs.FirstForm.{FirstForm}
+use Rattle.sim_journal.specs.declared.Entry.{Entry}
+use Rattle.sim_journal.specs.declared.End.{End}
+use Rattle.sim_journal.specs.Print.{Print}
+use Rattle.sim_cycle.specs.Run.{IsRun, Part}
+use Rattle.sim_host.specs.Host.{Seen, Written, TextHas, WroteFront, wrote, added, also_asked, bytes_of, Files, Rose}
+use Rattle.sim_host.specs.declared.names.Asked.TheVariants.{Start}
+use Rattle.sim_host.specs.declared.channels.Channel.TheVariants as channel
+use Rattle.sim_command.specs.declared.fault.CommandFault.{CommandFault}
+use Rattle.sim_command.specs.declared.fault.CommandFault.TheVariants as fault
+use Rattle.sim_command.specs.declared.Status.{Status}
+use Rattle.sim_command.specs.declared.Status.TheVariants as status
+use Rattle.sim_command.specs.Words.{Command, Run}
+
+-- the most bytes that a design file may have
+abbrev pub most_bytes : ℕ
+most_bytes = 1048576
+
+-- the line that is said of a fault
+abbrev pub line_of : CommandFault → List ℕ
+line_of fault.Usage = codes "vhpisim: usage\n"
+line_of fault.TooLong = codes "vhpisim: design: TooLong\n"
+line_of fault.NotBuilt = codes "vhpisim: design: NotBuilt\n"
+line_of fault.Host = codes "vhpisim: host fault\n"
+line_of fault.NoMemory = codes "vhpisim: no memory\n"
+
+-- the status of a fault
+abbrev pub status_of : CommandFault → Status
+status_of fault.Usage = status.Usage
+status_of fault.TooLong = status.Refused
+status_of fault.NotBuilt = status.Refused
+status_of fault.Host = status.HostFault
+status_of fault.NoMemory = status.NoMemory
+
+-- the status where memory ran out while the line was written
+abbrev pub without_memory : Status → Status
+without_memory status.Done = status.Done
+without_memory status.Refused = status.NoMemory
+without_memory status.Usage = status.NoMemory
+without_memory status.NoMemory = status.NoMemory
+without_memory status.HostFault = status.HostFault
+
+-- Before the line.
+
+-- a text is of no form that can be run
+abbrev pub IsNotBuilt : List ℕ → Type 0
+IsNotBuilt text = (d : Design) → FirstForm text d → ⊥
+
+-- the design of the file was run, and the whole journal of its run was written to Out
+pub record RunShown (name : List ℕ) (limit : ℕ) (old new : Seen) : Type 0 where
+  pub text : List ℕ
+  pub file : TextHas name old (λ t. t ≡ text)
+  pub within : length text ≤ most_bytes
+  pub design : Design
+  pub read : FirstForm text design
+  pub entries : List Entry
+  pub end : End
+  pub run : IsRun design (record { limit = limit }) entries end
+  pub written : new.written ≡ added channel.Out (Print design entries) old.written
+  pub asked : new.asked ≡ also_asked (Start name) old.asked
+
+-- a front of the lines of the first part of that run was written to Out
+pub record FrontShown (name : List ℕ) (limit : ℕ) (old : Seen) (now : Written) : Type 0 where
+  pub text : List ℕ
+  pub file : TextHas name old (λ t. t ≡ text)
+  pub design : Design
+  pub read : FirstForm text design
+  pub entries : List Entry
+  pub part : Part design (record { limit = limit }) entries
+  pub front : List ℕ
+  pub rest : List ℕ
+  pub lines : Print design entries ≡ front ++ rest
+  pub written : now ≡ added channel.Out front old.written
+
+-- nothing was written, or such a front
+abbrev pub IsShown : List ℕ → ℕ → Seen → Written → Type 0
+IsShown name limit old now = (now ≡ old.written) ⊎ FrontShown name limit old now
+
+-- the host was asked to begin this file, or nothing was asked of it
+abbrev pub AsksOnce : List ℕ → Seen → Seen → Type 0
+AsksOnce name old new = (new.asked ≡ also_asked (Start name) old.asked) ⊎ (new.asked ≡ old.asked)
+
+-- why the file is refused: it has too many bytes, or is of no form that can be run
+abbrev pub IsRefused : CommandFault → List ℕ → Seen → Type 0
+IsRefused fault.TooLong name old = TextHas name old (λ t. most_bytes < length t)
+IsRefused fault.NotBuilt name old = TextHas name old (λ t. (length t ≤ most_bytes) × IsNotBuilt t)
+IsRefused f name old = ⊥
+
+pub record Refuses (f : CommandFault) (name : List ℕ) (old new : Seen) : Type 0 where
+  pub why : IsRefused f name old
+  pub written : new.written ≡ old.written
+  pub asked : new.asked ≡ also_asked (Start name) old.asked
+
+pub record Interrupted (name : List ℕ) (limit : ℕ) (old new : Seen) : Type 0 where
+  pub shown : IsShown name limit old new.written
+  pub asked : AsksOnce name old new
+
+-- what the command `run` comes to
+abbrev pub RunsDesign : Result (Unit {0}) CommandFault → List ℕ → ℕ → Seen → Seen → Type 0
+RunsDesign (Ok done) name limit old new = RunShown name limit old new
+RunsDesign (Err fault.Usage) name limit old new = ⊥
+RunsDesign (Err fault.TooLong) name limit old new = Refuses fault.TooLong name old new
+RunsDesign (Err fault.NotBuilt) name limit old new = Refuses fault.NotBuilt name old new
+RunsDesign (Err fault.Host) name limit old new = Interrupted name limit old new
+RunsDesign (Err fault.NoMemory) name limit old new = Interrupted name limit old new
+
+-- what a command comes to
+abbrev pub Obeys : Option Command → Result (Unit {0}) CommandFault → Seen → Seen → Type 0
+Obeys None result old new = (result ≡ Err fault.Usage) × (new ≡ old)
+Obeys (Some (Run name limit)) result old new = RunsDesign result name limit old new
+
+-- the count of faults rose where that is the answer, and stays at any other
+abbrev pub CauseOf : Result (Unit {0}) CommandFault → ℕ → ℕ → Type 0
+CauseOf (Ok done) before now = now ≡ before
+CauseOf (Err fault.Host) before now = (before ≤ now) × Rose before now
+CauseOf (Err fault.Usage) before now = now ≡ before
+CauseOf (Err fault.TooLong) before now = now ≡ before
+CauseOf (Err fault.NotBuilt) before now = now ≡ before
+CauseOf (Err fault.NoMemory) before now = now ≡ before
+
+-- With the line, and the status.
+
+-- the whole line was written to Err, and there was no fault; or a front of it, and there was one
+abbrev pub Said : List ℕ → Written → Written → ℕ → ℕ → Type 0
+Said line was now before after =
+    ((now ≡ added channel.Err line was) × (after ≡ before))
+    ⊎ ((k : ℕ) × (k < length line) × (now ≡ added channel.Err (take k line) was) × Rose before after)
+
+-- status 0: the command is done, and nothing is said
+abbrev pub IsDone : Option Command → Seen → Seen → ℕ → ℕ → Type 0
+IsDone None old new before after = ⊥
+IsDone (Some (Run name limit)) old new before after = RunShown name limit old new × (after ≡ before)
+
+-- status 1: the file is refused, and the line says why; Out is unchanged
+abbrev pub IsRefusal : Option Command → Seen → Seen → ℕ → ℕ → Type 0
+IsRefusal None old new before after = ⊥
+IsRefusal (Some (Run name limit)) old new before after =
+    (f : CommandFault) × IsRefused f name old × Said (line_of f) old.written new.written before after × (new.asked ≡ also_asked (Start name) old.asked)
+
+-- status 2: the words are no command, and nothing is asked of the host; Out is unchanged
+abbrev pub IsUsage : Option Command → Seen → Seen → ℕ → ℕ → Type 0
+IsUsage None old new before after = Said (line_of fault.Usage) old.written new.written before after × (new.asked ≡ old.asked)
+IsUsage (Some c) old new before after = ⊥
+
+-- a front of a line was written to Err; it isn't all of the line of want of memory, where a fault came
+pub record SaidSome (f : CommandFault) (was now : Written) (before after : ℕ) : Type 0 where
+  pub count : ℕ
+  pub within : count ≤ length (line_of f)
+  pub written : now ≡ added channel.Err (take count (line_of f)) was
+  pub later : before ≤ after
+  pub rose : before < after → (count < length (line_of f)) × (f ≡ fault.NoMemory)
+
+-- status 3: memory ran out, in the run or while a line was written
+abbrev pub IsNoMemory : Option Command → Seen → Seen → ℕ → ℕ → Type 0
+IsNoMemory None old new before after = (f : CommandFault) × SaidSome f old.written new.written before after × (new.asked ≡ old.asked)
+IsNoMemory (Some (Run name limit)) old new before after =
+    (middle : Written) × (f : CommandFault) × IsShown name limit old middle × SaidSome f middle new.written before after × AsksOnce name old new
+
+-- status 4: the host had a fault
+abbrev pub IsHostFault : Option Command → Seen → Seen → ℕ → ℕ → Type 0
+IsHostFault None old new before after = ⊥
+IsHostFault (Some (Run name limit)) old new before after =
+    (middle : Written) × (k : ℕ) × IsShown name limit old middle × (k ≤ length (line_of fault.Host)) × (new.written ≡ added channel.Err (take k (line_of fault.Host)) middle) × AsksOnce name old new × Rose before after
+
+-- each status has its outcome
+abbrev pub Outcome : Status → Option Command → Seen → Seen → ℕ → ℕ → Type 0
+Outcome status.Done c old new before after = IsDone c old new before after
+Outcome status.Refused c old new before after = IsRefusal c old new before after
+Outcome status.Usage c old new before after = IsUsage c old new before after
+Outcome status.NoMemory c old new before after = IsNoMemory c old new before after
+Outcome status.HostFault c old new before after = IsHostFault c old new before after
+
+-- the only file that the host is asked for is that of the words, and none where they are usage
+abbrev pub AsksOnly : Option Command → Seen → Seen → Type 0
+AsksOnly None old new = new.asked ≡ old.asked
+AsksOnly (Some (Run name limit)) old new = AsksOnce name old new
+
+-- where the file is told and can be run, and the host has no fault, the command is done, memory
+-- aside; where it is refused, the status says so
+abbrev pub IsDoneWhereRun : Option Command → Status → Seen → ℕ → ℕ → Type 0
+IsDoneWhereRun None result old before after = (result ≡ status.Usage) ⊎ (result ≡ status.NoMemory)
+IsDoneWhereRun (Some (Run name limit)) result old before after =
+    (files : Files) (text : List ℕ) (d : Design) → old.files ≡ Some files → bytes_of name files ≡ Some text → length text ≤ most_bytes → FirstForm text d → (Rose before after → ⊥) → (result ≡ status.Done) ⊎ (result ≡ status.NoMemory)
+
+abbrev pub IsRefusedWhereNot : Option Command → Status → Seen → ℕ → ℕ → Type 0
+IsRefusedWhereNot None result old before after = (result ≡ status.Usage) ⊎ (result ≡ status.NoMemory)
+IsRefusedWhereNot (Some (Run name limit)) result old before after =
+    (files : Files) (text : List ℕ) → old.files ≡ Some files → bytes_of name files ≡ Some text → (most_bytes < length text) ⊎ IsNotBuilt text → (Rose before after → ⊥) → (result ≡ status.Refused) ⊎ (result ≡ status.NoMemory)
+
+-- a line was said with a status: all of it; a front of it, at a fault; or a front of it, where memory ran out
+abbrev pub Finishes : List ℕ → Status → Status → Seen → Seen → ℕ → ℕ → Type 0
+Finishes line s result was now before after =
+    ((result ≡ s) × (now ≡ wrote channel.Err line was) × (after ≡ before))
+    ⊎ ((result ≡ s) × WroteFront channel.Err line was now × Rose before after × (before ≤ after))
+    ⊎ ((result ≡ without_memory s) × WroteFront channel.Err line was now × (after ≡ before))
+
+-- what is said of what a command came to
+abbrev pub Settles : Result (Unit {0}) CommandFault → Status → Seen → Seen → ℕ → ℕ → Type 0
+Settles (Ok done) result was now before after = (result ≡ status.Done) × (now ≡ was) × (after ≡ before)
+Settles (Err f) result was now before after = Finishes (line_of f) (status_of f) result was now before after

@@ -3,6 +3,7 @@
 
 mod bytes;
 mod reserved;
+mod scan;
 mod token;
 
 pub use token::{Delimiter, Kind, Reserved, Token, TokenError};

@@ -7,7 +7,7 @@ ghost use Rattle.vhdl_tokens.specs.Reserved.{reserved_word};
 ghost use Rattle.vhdl_tokens.specs.Delimiters.{single, double};
 ghost use Rattle.vhdl_tokens.specs.Spelling.{begins, is_spaced, with_digit, number, small, is_integer, are_digits, is_on_line};
 ghost use Rattle.vhdl_tokens.specs.Text.{bits_base};
-ghost use Rattle.vhdl_tokens.specs.Scan.{run_len, kind_of_word, name_at, integer_at, bits_at, word_at, text_end, block_end, char_at, tick_at, mark_at, piece_at};
+ghost use Rattle.vhdl_tokens.specs.Scan.{run_len, kind_of_word, single_at, double_at, text_to, block_to, name_at, integer_at, bits_at, word_at, text_end, block_end, char_at, tick_at, mark_at, piece_at};
 
 use crate::bytes::{Class, base_of, belongs, is_graphic, is_separator, is_word_byte};
 use crate::reserved::reserved_word;
@@ -97,7 +97,10 @@ pub fn number(digits: &[u8]) -> Option<u128>
 {
     let mut n = 0u128;
     for d in digits {
-        n = with_digit(n, *d)?;
+        match with_digit(n, *d) {
+            None => return None,
+            Some(more) => n = more,
+        }
     }
     Some(n)
 }
@@ -193,5 +196,197 @@ fn word_at(text: &[u8]) -> Option<Found>
     match bits_base(text) {
         None => name_at(text),
         Some(base) => bits_at(base, text),
+    }
+}
+
+// How many bytes a string literal has that goes on with these behind its first quotation mark.
+#[tactic(auto, unfolding(crate::specs::Scan::text_end))]
+fn text_end(bytes: &[u8]) -> Option<usize>
+    requires { length bytes.now < 2 ^ 32 }
+    ensures { result ≡ text_end 1 bytes.now }
+{
+    let mut len = 1usize;
+    let mut rest = bytes;
+    'bytes: while let [a, behind @ ..] = rest {
+        if *a != b'"' {
+            if !is_graphic(*a) {
+                return None;
+            }
+            len += 1;
+            rest = behind;
+            continue;
+        }
+        match behind {
+            [b'"', more @ ..] => {
+                len += 2;
+                rest = more;
+            }
+            _ => return Some(len + 1),
+        }
+    }
+    None
+}
+
+// How many bytes a comment has that goes on with these behind its `/*`.
+#[tactic(auto, unfolding(crate::specs::Scan::block_end))]
+fn block_end(bytes: &[u8]) -> Option<usize>
+    requires { length bytes.now < 2 ^ 32 }
+    ensures { result ≡ block_end 2 bytes.now }
+{
+    let mut len = 2usize;
+    let mut rest = bytes;
+    'bytes: while let [a, behind @ ..] = rest {
+        match behind {
+            [b'/', ..] if *a == b'*' => return Some(len + 2),
+            _ => {}
+        }
+        len += 1;
+        rest = behind;
+    }
+    None
+}
+
+#[tactic(auto, unfolding(crate::specs::Scan::char_at))]
+fn char_at(text: &[u8]) -> Option<Found>
+    ensures { result ≡ char_at text.now }
+{
+    match text {
+        [_, b, b'\'', ..] if is_graphic(*b) => token(Kind::Char, 3),
+        _ => None,
+    }
+}
+
+fn tick_at(after_name: bool, text: &[u8]) -> Option<Found>
+    ensures { result ≡ tick_at after_name text.now }
+{
+    if after_name {
+        token(Kind::Delimiter(Delimiter::Tick), 1)
+    } else {
+        char_at(text)
+    }
+}
+
+/// The delimiter of one byte.
+pub fn single(b: u8) -> Option<Delimiter>
+    ensures { result ≡ single b }
+{
+    match b {
+        b'(' => Some(Delimiter::LeftParen),
+        b')' => Some(Delimiter::RightParen),
+        b',' => Some(Delimiter::Comma),
+        b';' => Some(Delimiter::Semicolon),
+        b':' => Some(Delimiter::Colon),
+        b'.' => Some(Delimiter::Dot),
+        b'&' => Some(Delimiter::Ampersand),
+        b'\'' => Some(Delimiter::Tick),
+        b'|' => Some(Delimiter::Bar),
+        b'+' => Some(Delimiter::Plus),
+        b'-' => Some(Delimiter::Minus),
+        b'*' => Some(Delimiter::Star),
+        b'/' => Some(Delimiter::Slash),
+        b'<' => Some(Delimiter::Less),
+        b'>' => Some(Delimiter::Greater),
+        b'=' => Some(Delimiter::Equal),
+        _ => None,
+    }
+}
+
+// The delimiter of two bytes.
+fn double(a: u8, b: u8) -> Option<Delimiter>
+    ensures { result ≡ double a b }
+{
+    match (a, b) {
+        (b'*', b'*') => Some(Delimiter::DoubleStar),
+        (b'=', b'>') => Some(Delimiter::Arrow),
+        (b':', b'=') => Some(Delimiter::Assign),
+        (b'<', b'=') => Some(Delimiter::LessEqual),
+        (b'>', b'=') => Some(Delimiter::GreaterEqual),
+        (b'/', b'=') => Some(Delimiter::NotEqual),
+        _ => None,
+    }
+}
+
+fn single_at(a: u8) -> Option<Found>
+    ensures { result ≡ single_at (single a) }
+{
+    match single(a) {
+        None => None,
+        Some(delimiter) => token(Kind::Delimiter(delimiter), 1),
+    }
+}
+
+fn double_at(a: u8, b: u8) -> Option<Found>
+    ensures { result ≡ double_at (double a b) a }
+{
+    match double(a, b) {
+        None => single_at(a),
+        Some(delimiter) => token(Kind::Delimiter(delimiter), 2),
+    }
+}
+
+fn block_at(body: &[u8]) -> Option<Found>
+    requires { length body.now < 2 ^ 32 }
+    ensures { result ≡ block_to (block_end 2 body.now) }
+{
+    match block_end(body) {
+        None => None,
+        Some(len) => blank(len),
+    }
+}
+
+fn text_at(behind: &[u8]) -> Option<Found>
+    requires { length behind.now < 2 ^ 32 }
+    ensures { result ≡ text_to (text_end 1 behind.now) }
+{
+    match text_end(behind) {
+        None => None,
+        Some(len) => token(Kind::Text, len),
+    }
+}
+
+#[tactic(auto, unfolding(crate::specs::Scan::mark_at))]
+fn mark_at(text: &[u8]) -> Option<Found>
+    requires { length text.now < 2 ^ 32 }
+    ensures { result ≡ mark_at text.now }
+{
+    match text {
+        [] => None,
+        [a] => single_at(*a),
+        [a, b, body @ ..] => {
+            if *a == b'-' && *b == b'-' {
+                blank(2 + line_len(body))
+            } else if *a == b'/' && *b == b'*' {
+                block_at(body)
+            } else {
+                double_at(*a, *b)
+            }
+        }
+    }
+}
+
+/// What stands at the front of a text, if anything does. `after_name` says that the token before it is an
+/// identifier, `)` or `all`, so that an apostrophe is a delimiter.
+#[tactic(auto, unfolding(crate::specs::Scan::piece_at))]
+pub fn piece_at(after_name: bool, text: &[u8]) -> Option<Found>
+    requires { length text.now < 2 ^ 32 }
+    ensures { result ≡ piece_at after_name text.now }
+{
+    match text {
+        [] => None,
+        [b, behind @ ..] => {
+            if b.is_ascii_alphabetic() {
+                word_at(text)
+            } else if b.is_ascii_digit() {
+                integer_at(text)
+            } else if is_separator(*b) {
+                blank(1)
+            } else if *b == b'"' {
+                text_at(behind)
+            } else if *b == b'\'' {
+                tick_at(after_name, text)
+            } else {
+                mark_at(text)
+            }
+        }
     }
 }

@@ -11,6 +11,8 @@ use Rattle.vhdl_tokens.specs.declared.token.Delimiter.{Delimiter}
 use Rattle.vhdl_tokens.specs.declared.token.Delimiter.TheVariants as delimiter
 use Rattle.vhdl_tokens.specs.declared.reserved.Reserved.{Reserved}
 use Rattle.vhdl_tokens.specs.declared.scan.Found.{Found}
+use Rattle.vhdl_tokens.specs.declared.scan.TextStep.{TextStep}
+use Rattle.vhdl_tokens.specs.declared.scan.TextStep.TheVariants.{Takes, Ends, Breaks}
 use Rattle.vhdl_tokens.specs.Bytes.{is_word_byte, is_graphic, is_separator, base_of}
 use Rattle.vhdl_tokens.specs.Reserved.{reserved_word}
 use Rattle.vhdl_tokens.specs.Delimiters.{single, double, is_dashes, is_opening, is_closing}
@@ -64,6 +66,13 @@ word_by (Some base) text = bits_at base text
 
 unfoldable pub word_at : List ℕ → Option Found
 word_at text = word_by (bits_base text) text
+
+-- how a string literal goes on
+abbrev pub text_step : List ℕ → TextStep
+text_step [] = Breaks
+text_step (a ∷ []) = if a == 34 then Ends else (if is_graphic a then Takes 1 else Breaks)
+text_step (a ∷ b ∷ more) =
+    if a == 34 then (if b == 34 then Takes 2 else Ends) else (if is_graphic a then Takes 1 else Breaks)
 
 -- the bytes of a string literal, of which n stand before these
 unfoldable pub text_end : ℕ → List ℕ → Option ℕ

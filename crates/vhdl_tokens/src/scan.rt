@@ -7,7 +7,7 @@ ghost use Rattle.vhdl_tokens.specs.Reserved.{reserved_word};
 ghost use Rattle.vhdl_tokens.specs.Delimiters.{single, double};
 ghost use Rattle.vhdl_tokens.specs.Spelling.{begins, is_spaced, with_digit, number, small, is_integer, are_digits, is_on_line};
 ghost use Rattle.vhdl_tokens.specs.Text.{bits_base};
-ghost use Rattle.vhdl_tokens.specs.Scan.{run_len, kind_of_word, single_at, double_at, text_to, block_to, name_at, integer_at, bits_at, word_at, text_end, block_end, char_at, tick_at, mark_at, piece_at};
+ghost use Rattle.vhdl_tokens.specs.Scan.{run_len, kind_of_word, single_at, double_at, text_to, block_to, text_step, name_at, integer_at, bits_at, word_at, text_end, block_end, char_at, tick_at, mark_at, piece_at};
 
 use crate::bytes::{Class, base_of, belongs, is_graphic, is_separator, is_word_byte};
 use crate::reserved::reserved_word;
@@ -199,32 +199,52 @@ fn word_at(text: &[u8]) -> Option<Found>
     }
 }
 
+// How a string literal goes on.
+#[derive(Clone, Copy, Debug, PartialEq, Eq)]
+enum TextStep {
+    // A byte of its value is spelled by so many bytes.
+    Takes(usize),
+    // Its last quotation mark.
+    Ends,
+    // Neither.
+    Breaks,
+}
+
+fn text_step(rest: &[u8]) -> TextStep
+    ensures { result ≡ text_step rest.now }
+{
+    match rest {
+        [] => TextStep::Breaks,
+        [b'"', b'"', ..] => TextStep::Takes(2),
+        [b'"', ..] => TextStep::Ends,
+        [a, ..] => {
+            if is_graphic(*a) {
+                TextStep::Takes(1)
+            } else {
+                TextStep::Breaks
+            }
+        }
+    }
+}
+
 // How many bytes a string literal has that goes on with these behind its first quotation mark.
-#[tactic(auto, unfolding(crate::specs::Scan::text_end))]
 fn text_end(bytes: &[u8]) -> Option<usize>
     requires { length bytes.now < 2 ^ 32 }
     ensures { result ≡ text_end 1 bytes.now }
 {
     let mut len = 1usize;
     let mut rest = bytes;
-    'bytes: while let [a, behind @ ..] = rest {
-        if *a != b'"' {
-            if !is_graphic(*a) {
-                return None;
+    'bytes: loop {
+        match text_step(rest) {
+            TextStep::Takes(n) => {
+                let (_, behind) = rest.split_at(n);
+                rest = behind;
+                len += n;
             }
-            len += 1;
-            rest = behind;
-            continue;
-        }
-        match behind {
-            [b'"', more @ ..] => {
-                len += 2;
-                rest = more;
-            }
-            _ => return Some(len + 1),
+            TextStep::Ends => return Some(len + 1),
+            TextStep::Breaks => return None,
         }
     }
-    None
 }
 
 // How many bytes a comment has that goes on with these behind its `/*`.

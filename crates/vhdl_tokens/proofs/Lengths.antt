@@ -53,3 +53,19 @@ advanced n k limit rest behind whole so is cut size =
       same = ap (text_end (n + k)) cut ∙ sym (taken n k rest is).2 ∙ so.same;
       within = omega (arith, so.within);
     }
+
+-- a byte of the string that is no quotation mark
+pub graphic_step : (n a : ℕ) (behind : List ℕ) → eqb a 34 ≡ false → is_graphic a ≡ true → text_end n (a ∷ behind) ≡ text_end (n + 1) behind
+graphic_step n a [] other graphic = graphic_last n a other
+  where
+    graphic_last : (n a : ℕ) → eqb a 34 ≡ false → text_end n (a ∷ []) ≡ text_end (n + 1) []
+    graphic_last n a other = unfold text_end in rw other refl
+graphic_step n a (b ∷ more) other graphic = graphic_more n a b more other graphic
+  where
+    graphic_more : (n a b : ℕ) (more : List ℕ) → eqb a 34 ≡ false → is_graphic a ≡ true → text_end n (a ∷ b ∷ more) ≡ text_end (n + 1) (b ∷ more)
+    graphic_more n a b more other graphic = unfold text_end in rw (other, graphic) refl
+
+-- a quotation mark that is doubled
+pub quote_step : (n : ℕ) (more : List ℕ) → text_end n (34 ∷ 34 ∷ more) ≡ text_end (n + 2) more
+unfolding text_end
+quote_step n more = refl

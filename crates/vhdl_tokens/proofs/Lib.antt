@@ -1,3 +1,5 @@
 pub mod Classes
+pub mod Complete
 pub mod Lengths
+pub mod Marks
 pub mod Numbers

@@ -3,3 +3,4 @@ pub mod Complete
 pub mod Lengths
 pub mod Marks
 pub mod Numbers
+pub mod Sound

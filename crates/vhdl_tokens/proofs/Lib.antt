@@ -3,4 +3,5 @@ pub mod Complete
 pub mod Lengths
 pub mod Marks
 pub mod Numbers
+pub mod Pieces
 pub mod Sound

@@ -116,3 +116,8 @@ pub record IsFault (text : List ℕ) (fault : TokenError) : Type 0 where
   pub splits : Splits pieces false text after (byte ∷ rest)
   pub no_piece : (k : Option Kind) (bytes behind : List ℕ) → byte ∷ rest ≡ bytes ++ behind → IsPiece k after bytes behind → ⊥
   pub fault_is : fault ≡ fault_of (size_of pieces) byte
+
+-- a refusal: the first fault, unless memory ran out
+abbrev pub Refuses : List ℕ → TokenError → Type 0
+Refuses text error.NoMemory = Unit {0}
+Refuses text fault = IsFault text fault

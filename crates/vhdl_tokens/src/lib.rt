@@ -5,5 +5,7 @@ mod bytes;
 mod reserved;
 mod scan;
 mod token;
+mod reading;
 
 pub use token::{Delimiter, Kind, Reserved, Token, TokenError};
+pub use reading::{TEXT_LIMIT, one_reading, tokens};

@@ -218,12 +218,12 @@ single_complete false b d behind true same is whole tick = absurd cc
 single_complete a b d behind false same is whole tick = mark_first a b behind (single_plain b d is) same ∙ single_mark b d behind is whole
 
 delimiter_complete : (a : Bool) (bytes behind : List ℕ) (d : Delimiter) → IsDelimiter d a bytes behind → piece_at a (bytes ++ behind) ≡ token (kind.Delimiter d) (length bytes)
-delimiter_complete a [] behind d is = absurd (is tt)
+delimiter_complete a [] behind d is = absurd is
 delimiter_complete a (b ∷ []) behind d is = single_complete a b d behind (eqb b 39) refl is.0 is.1 is.2
 delimiter_complete a (b ∷ c ∷ []) behind d is =
     let plain = double_plain b c d is in
     mark_first a b (c ∷ behind) plain.first plain.apostrophe ∙ double_mark b c d behind is plain
-delimiter_complete a (b ∷ c ∷ e ∷ more) behind d is = absurd (is tt)
+delimiter_complete a (b ∷ c ∷ e ∷ more) behind d is = absurd is
 
 -- all of them
 pub complete : (k : Option Kind) (a : Bool) (bytes behind : List ℕ) → IsPiece k a bytes behind → piece_at a (bytes ++ behind) ≡ Some (record { kind = k; len = length bytes })

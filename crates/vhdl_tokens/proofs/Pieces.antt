@@ -200,7 +200,7 @@ never_empty (Some kind.Int) a behind is = let e = is.0 in absurd cc
 never_empty (Some kind.Char) a behind is = let e = is.1.spelled in absurd cc
 never_empty (Some kind.Text) a behind is = let e = is.1.spelled in absurd cc
 never_empty (Some kind.Bits) a behind is = let e = is.1.spelled in absurd cc
-never_empty (Some (kind.Delimiter d)) a behind is = is tt
+never_empty (Some (kind.Delimiter d)) a behind is = is
 
 -- what is found has a byte, and no more than there are
 pub record IsWithin (len : ℕ) (text : List ℕ) : Type 0 where

@@ -1,5 +1,6 @@
 pub mod Bytes
 pub mod Delimiters
+pub mod Meaning
 pub mod Reserved
 pub mod Scan
 pub mod Spelling

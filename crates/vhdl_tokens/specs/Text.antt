@@ -30,11 +30,11 @@ pub record IsWord (bytes behind : List ℕ) : Type 0 where
 
 -- a delimiter, the longest. An apostrophe is one only behind a name.
 abbrev pub IsDelimiter : Delimiter → Bool → List ℕ → List ℕ → Type 0
-IsDelimiter d after_name [] behind = Unit {0} → ⊥
+IsDelimiter d after_name [] behind = ⊥
 IsDelimiter d after_name (a ∷ []) behind =
     (single a ≡ Some d) × (goes_on a behind ≡ false) × ((not (a == 39) || after_name) ≡ true)
 IsDelimiter d after_name (a ∷ b ∷ []) behind = double a b ≡ Some d
-IsDelimiter d after_name (a ∷ b ∷ c ∷ more) behind = Unit {0} → ⊥
+IsDelimiter d after_name (a ∷ b ∷ c ∷ more) behind = ⊥
 
 -- These bytes are one piece of a text: a separator or comment, or a token of this kind, the longest.
 -- Behind them stands the rest, and before them a name or none.

@@ -2,10 +2,12 @@
 #![tactic(auto)]
 
 mod bytes;
+mod meaning;
 mod reserved;
 mod scan;
 mod token;
 mod reading;
 
 pub use token::{Delimiter, Kind, Reserved, Token, TokenError};
+pub use meaning::{character, identifier, integer, span};
 pub use reading::{TEXT_LIMIT, one_reading, tokens};

@@ -5,7 +5,7 @@ ghost use Rattle.std.specs.List.{prefix_len};
 ghost use Rattle.vhdl_tokens.specs.Bytes.{is_word_byte};
 ghost use Rattle.vhdl_tokens.specs.Reserved.{reserved_word};
 ghost use Rattle.vhdl_tokens.specs.Delimiters.{single, double};
-ghost use Rattle.vhdl_tokens.specs.Spelling.{begins, is_spaced, with_digit, number, small, is_integer, are_digits, is_on_line};
+ghost use Rattle.vhdl_tokens.specs.Spelling.{begins, is_spaced, is_identifier, with_digit, number, small, is_integer, are_digits, is_on_line};
 ghost use Rattle.vhdl_tokens.specs.Text.{bits_base};
 ghost use Rattle.vhdl_tokens.specs.Scan.{run_len, kind_of_word, single_at, double_at, text_to, block_to, text_step, name_at, integer_at, bits_at, word_at, text_end, block_end, char_at, tick_at, mark_at, piece_at};
 
@@ -71,6 +71,16 @@ pub fn is_spaced(class: Class, bytes: &[u8]) -> bool
         };
     }
     false
+}
+
+/// Whether bytes are a letter, and then letters and digits with single underlines between them.
+pub fn is_identifier(name: &[u8]) -> bool
+    ensures { result ≡ is_identifier name.now }
+{
+    match name {
+        [] => false,
+        [a, ..] => a.is_ascii_alphabetic() && is_spaced(Class::Name, name),
+    }
 }
 
 /// Whether bytes are no digits, or digits with single underlines between them.

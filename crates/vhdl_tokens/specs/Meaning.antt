@@ -1,0 +1,98 @@
+-- What the bytes of a token say.
+use Rattle.std.specs.Prelude.{◌≡◌, ℕ, ◌+◌, ◌-◌, ◌<◌, ◌≤◌, Bool, true, false, ◌==◌, ◌&&◌, Option, Some, None, List, [], ◌∷◌, ◌++◌, length, take, drop, map, if◌then◌else◌}
+use Rattle.std.specs.List.{flat_map, prefix_len}
+use Rattle.std.specs.Char.{to_ascii_lowercase}
+use Rattle.vhdl_tokens.specs.declared.bytes.Class.{Class}
+use Rattle.vhdl_tokens.specs.declared.token.Kind.{Kind}
+use Rattle.vhdl_tokens.specs.declared.token.Kind.TheVariants as kind
+use Rattle.vhdl_tokens.specs.declared.token.Token.{Token}
+use Rattle.vhdl_tokens.specs.declared.token.Delimiter.{Delimiter}
+use Rattle.vhdl_tokens.specs.declared.scan.TextStep.{TextStep}
+use Rattle.vhdl_tokens.specs.declared.scan.TextStep.TheVariants.{Takes, Ends, Breaks}
+use Rattle.vhdl_tokens.specs.Bytes.{is_word_byte, is_graphic}
+use Rattle.vhdl_tokens.specs.Reserved.{reserved_word}
+use Rattle.vhdl_tokens.specs.Delimiters.{single, double}
+use Rattle.vhdl_tokens.specs.Spelling.{begins, is_identifier, is_integer, number, IsChar, IsText, IsBits, are_digits, bits_at}
+use Rattle.vhdl_tokens.specs.Text.{bits_base}
+
+-- the bytes of a token
+abbrev pub span : List ℕ → Token → List ℕ
+span text token = take (token.end - token.start) (drop token.start text)
+
+-- the name of an identifier, in lower case
+abbrev pub identifier_of : List ℕ → Option (List ℕ)
+identifier_of bytes = if is_identifier bytes then Some (map to_ascii_lowercase bytes) else None
+
+-- the number of an integer
+abbrev pub integer_of : List ℕ → Option ℕ
+integer_of bytes = if is_integer bytes then Some (number bytes) else None
+
+-- The value that bytes spell, if they spell one.
+abbrev pub Means : {V : Type 0} → (V → Type 0) → Option V → Type 0
+Means Spells None = (value : _) → Spells value → ⊥
+Means Spells (Some value) = Spells value
+
+-- a delimiter's spelling
+abbrev pub SpellsDelimiter : Delimiter → List ℕ → Type 0
+SpellsDelimiter d [] = ⊥
+SpellsDelimiter d (a ∷ []) = single a ≡ Some d
+SpellsDelimiter d (a ∷ b ∷ []) = double a b ≡ Some d
+SpellsDelimiter d (a ∷ b ∷ c ∷ more) = ⊥
+
+-- Each token's bytes are spelled as its kind says.
+abbrev pub IsSpelled : Kind → List ℕ → Type 0
+IsSpelled kind.Identifier bytes = (is_identifier bytes ≡ true) × (reserved_word bytes ≡ None)
+IsSpelled (kind.Word word) bytes = reserved_word bytes ≡ Some word
+IsSpelled kind.Int bytes = is_integer bytes ≡ true
+IsSpelled kind.Char bytes = (byte : ℕ) × IsChar bytes byte
+IsSpelled kind.Text bytes = (value : List ℕ) × IsText bytes value
+IsSpelled kind.Bits bytes = (bits : List Bool) × IsBits bytes bits
+IsSpelled (kind.Delimiter d) bytes = SpellsDelimiter d bytes
+
+-- A token of a text: it lies within the text, and its bytes are spelled as its kind says.
+pub record IsTokenOf (text : List ℕ) (token : Token) : Type 0 where
+  pub some : token.start < token.end
+  pub within : token.end ≤ length text
+  pub spelled : IsSpelled token.kind (span text token)
+
+-- How its value is found, by its bytes from the left.
+
+abbrev pub char_value : List ℕ → Option ℕ
+char_value [] = None
+char_value (a ∷ []) = None
+char_value (a ∷ b ∷ []) = None
+char_value (a ∷ b ∷ c ∷ []) = if (a == 39 && is_graphic b) && c == 39 then Some b else None
+char_value (a ∷ b ∷ c ∷ d ∷ more) = None
+
+-- the value of a string literal that goes on with these bytes, of which front is known
+unfoldable pub value_from : List ℕ → List ℕ → Option (List ℕ)
+value_from front [] = None
+value_from front (a ∷ []) = if a == 34 then Some front else None
+value_from front (a ∷ b ∷ more) =
+    if a == 34 then (if b == 34 then value_from (front ++ 34 ∷ []) more else None)
+    else (if is_graphic a then value_from (front ++ a ∷ []) (b ∷ more) else None)
+
+abbrev pub text_value : List ℕ → Option (List ℕ)
+text_value [] = None
+text_value (a ∷ more) = if a == 34 then value_from [] more else None
+
+-- one quotation mark
+abbrev pub is_quote : List ℕ → Bool
+is_quote [] = false
+is_quote (a ∷ []) = a == 34
+is_quote (a ∷ b ∷ more) = false
+
+abbrev pub bits_in : Class → List ℕ → List ℕ → Option (List Bool)
+bits_in base digits behind = if are_digits base digits && is_quote behind then Some (flat_map (bits_at base) digits) else None
+
+abbrev pub bits_behind : Class → List ℕ → Option (List Bool)
+bits_behind base [] = None
+bits_behind base (a ∷ []) = None
+bits_behind base (a ∷ b ∷ more) = bits_in base (take (prefix_len is_word_byte more) more) (drop (prefix_len is_word_byte more) more)
+
+abbrev pub bits_by : Option Class → List ℕ → Option (List Bool)
+bits_by None bytes = None
+bits_by (Some base) bytes = bits_behind base bytes
+
+abbrev pub bits_value : List ℕ → Option (List Bool)
+bits_value bytes = bits_by (bits_base bytes) bytes

@@ -5,3 +5,4 @@ pub mod Marks
 pub mod Numbers
 pub mod Pieces
 pub mod Sound
+pub mod Values

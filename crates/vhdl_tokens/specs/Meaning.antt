@@ -29,8 +29,8 @@ integer_of bytes = if is_integer bytes then Some (number bytes) else None
 
 -- The value that bytes spell, if they spell one.
 abbrev pub Means : {V : Type 0} → (V → Type 0) → Option V → Type 0
-Means Spells None = (value : _) → Spells value → ⊥
-Means Spells (Some value) = Spells value
+Means {V} Spells None = (value : V) → Spells value → ⊥
+Means {V} Spells (Some value) = Spells value
 
 -- a delimiter's spelling
 abbrev pub SpellsDelimiter : Delimiter → List ℕ → Type 0
@@ -85,14 +85,14 @@ is_quote (a ∷ b ∷ more) = false
 abbrev pub bits_in : Class → List ℕ → List ℕ → Option (List Bool)
 bits_in base digits behind = if are_digits base digits && is_quote behind then Some (flat_map (bits_at base) digits) else None
 
-abbrev pub bits_behind : Class → List ℕ → Option (List Bool)
-bits_behind base [] = None
-bits_behind base (a ∷ []) = None
-bits_behind base (a ∷ b ∷ more) = bits_in base (take (prefix_len is_word_byte more) more) (drop (prefix_len is_word_byte more) more)
+abbrev pub bits_quoted : Class → List ℕ → Option (List Bool)
+bits_quoted base [] = None
+bits_quoted base (a ∷ []) = None
+bits_quoted base (a ∷ b ∷ more) = bits_in base (take (prefix_len is_word_byte more) more) (drop (prefix_len is_word_byte more) more)
 
 abbrev pub bits_by : Option Class → List ℕ → Option (List Bool)
 bits_by None bytes = None
-bits_by (Some base) bytes = bits_behind base bytes
+bits_by (Some base) bytes = bits_quoted base bytes
 
 abbrev pub bits_value : List ℕ → Option (List Bool)
 bits_value bytes = bits_by (bits_base bytes) bytes

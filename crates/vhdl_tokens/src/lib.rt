@@ -9,5 +9,5 @@ mod token;
 mod reading;
 
 pub use token::{Delimiter, Kind, Reserved, Token, TokenError};
-pub use meaning::{character, identifier, integer, span};
+pub use meaning::{bits, character, identifier, integer, one_value, span, string};
 pub use reading::{TEXT_LIMIT, one_reading, tokens};

@@ -39,8 +39,8 @@ fn token(kind: Kind, len: usize) -> Option<Found>
     })
 }
 
-// How far letters, digits and underlines go.
-fn run_len(text: &[u8]) -> usize
+/// How far letters, digits and underlines go.
+pub fn run_len(text: &[u8]) -> usize
     ensures len { result ≡ run_len text.now }
     ensures within { result ≤ length text.now }
 {
@@ -161,7 +161,8 @@ fn integer_at(text: &[u8]) -> Option<Found>
     }
 }
 
-fn bits_base(text: &[u8]) -> Option<Class>
+/// The base of the bit string that a text begins with: a base specifier, and then a quotation mark.
+pub fn bits_base(text: &[u8]) -> Option<Class>
     ensures { result ≡ bits_base text.now }
 {
     match text {
@@ -209,18 +210,19 @@ fn word_at(text: &[u8]) -> Option<Found>
     }
 }
 
-// How a string literal goes on.
+/// How a string literal goes on.
 #[derive(Clone, Copy, Debug, PartialEq, Eq)]
-enum TextStep {
-    // A byte of its value is spelled by so many bytes.
+pub enum TextStep {
+    /// A byte of its value is spelled by so many bytes.
     Takes(usize),
-    // Its last quotation mark.
+    /// Its last quotation mark.
     Ends,
-    // Neither.
+    /// Neither.
     Breaks,
 }
 
-fn text_step(rest: &[u8]) -> TextStep
+/// How a string literal goes on with these bytes.
+pub fn text_step(rest: &[u8]) -> TextStep
     ensures { result ≡ text_step rest.now }
 {
     match rest {

@@ -5,4 +5,5 @@ pub mod Marks
 pub mod Numbers
 pub mod Pieces
 pub mod Sound
+pub mod Spelled
 pub mod Values

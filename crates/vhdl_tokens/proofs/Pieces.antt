@@ -190,7 +190,7 @@ one_fault text e f so too =
     so.fault_is ∙ ap (λ ps. fault_of (size_of ps) so.byte) same.pieces ∙ ap (fault_of (size_of too.pieces)) byte ∙ sym too.fault_is
 
 -- no piece is empty
-never_empty : (k : Option Kind) (a : Bool) (behind : List ℕ) → IsPiece k a [] behind → ⊥
+pub never_empty : (k : Option Kind) (a : Bool) (behind : List ℕ) → IsPiece k a [] behind → ⊥
 never_empty None a behind (inl is) = let e = is.spelled in absurd cc
 never_empty None a behind (inr (inl is)) = let e = is.spelled in absurd cc
 never_empty None a behind (inr (inr is)) = let e = is.spelled in absurd cc

@@ -14,7 +14,8 @@ use Rattle.vhdl_tokens.specs.Bytes.{is_word_byte, is_graphic, base_of}
 use Rattle.vhdl_tokens.specs.Spelling.{begins, IsChar, IsText, IsBits, doubled, are_digits, bits_at}
 use Rattle.vhdl_tokens.specs.Text.{bits_base}
 use Rattle.vhdl_tokens.specs.Scan.{text_step}
-use Rattle.vhdl_tokens.specs.Meaning.{Means, value_from, text_value, is_quote, bits_in, bits_quoted, bits_by, bits_value}
+use Rattle.vhdl_tokens.specs.Meaning.{Means}
+use Rattle.vhdl_tokens.specs.Values.{value_from, text_value, is_quote, bits_in, bits_quoted, bits_by, bits_value}
 use Rattle.vhdl_tokens.proofs.Classes.{spaced_word, prefix_whole}
 
 -- what a step says of the value

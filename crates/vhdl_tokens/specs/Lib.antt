@@ -5,3 +5,4 @@ pub mod Reserved
 pub mod Scan
 pub mod Spelling
 pub mod Text
+pub mod Values

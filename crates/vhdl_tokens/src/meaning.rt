@@ -5,7 +5,8 @@ ghost use Rattle.std.specs.Option.{option_map};
 ghost use Rattle.std.specs.List.{flat_map};
 ghost use Rattle.std.specs.Char.{to_ascii_lowercase};
 ghost use Rattle.vhdl_tokens.specs.Spelling.{IsChar, IsText, IsBits, digit_value, bit_worth, bits_at};
-ghost use Rattle.vhdl_tokens.specs.Meaning.{span, identifier_of, integer_of, Means, char_value, text_value, value_from, is_quote, bits_in, bits_quoted, bits_value};
+ghost use Rattle.vhdl_tokens.specs.Meaning.{span, identifier_of, integer_of, Means};
+ghost use Rattle.vhdl_tokens.specs.Values.{char_value, text_value, value_from, is_quote, bits_in, bits_quoted, bits_value};
 
 use std::alloc::{AllocError, Global};
 

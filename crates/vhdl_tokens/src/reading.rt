@@ -1,9 +1,10 @@
 //! A text as its tokens.
 
-ghost use Rattle.std.specs.Prelude.{◌≡◌, ℕ, ◌+◌, ◌≤◌, ◌<◌, ◌^◌, ◌==◌, ◌++◌, ◌⊎◌, List, length, slice_index, count_by, IfOk, IfErr, OnOk, IsOkAnd, IsErrOf};
+ghost use Rattle.std.specs.Prelude.{◌≡◌, ℕ, ◌+◌, ◌≤◌, ◌<◌, ◌^◌, ◌==◌, ◌++◌, ◌⊎◌, List, length, slice_index, count_by, All, IfOk, IfErr, OnOk, IsOkAnd, IsErrOf};
 ghost use Rattle.vhdl_tokens.specs.declared.token.Token.{Token};
 ghost use Rattle.vhdl_tokens.specs.declared.token.TokenError.{TokenError};
 ghost use Rattle.vhdl_tokens.specs.Text.{Tokens, IsFault, Refuses, is_name_end, name_behind, token_of, begins_token, fault_of};
+ghost use Rattle.vhdl_tokens.specs.Meaning.{IsTokenOf, StandInOrder};
 
 use std::alloc::Global;
 
@@ -125,6 +126,10 @@ pub fn tokens(alloc: Global, text: &[u8]) -> Result<Vec<Token>, TokenError>
     ensures tokens { IfOk result (λ v. Tokens text.now v.items) }
     ensures refusal { IfErr result (Refuses text.now) }
 
+    // Each token is spelled as its kind says, and they stand one behind the other.
+    ensures spelled { IfOk result (λ v. All (IsTokenOf text.now) v.items) }
+    ensures in_order { IfOk result (λ v. StandInOrder 0 v.items) }
+
     // What is so is answered, unless memory runs out.
     ensures only_list { (list : List Token) → Tokens text.now list → IsOkAnd result (λ v. v.items ≡ list) ⊎ IsErrOf result TokenError.NoMemory }
     ensures only_fault { (fault : TokenError) → IsFault text.now fault → IsErrOf result fault ⊎ IsErrOf result TokenError.NoMemory }
@@ -134,6 +139,7 @@ pub fn tokens(alloc: Global, text: &[u8]) -> Result<Vec<Token>, TokenError>
 
 /// A text is one list of tokens, or has one first fault, and not both.
 pub fn one_reading()
+    ensures some { (text : List ℕ) → ((list : List Token) × Tokens text list) ⊎ ((fault : TokenError) × IsFault text fault) }
     ensures one_list { (text : List ℕ) (list others : List Token) → Tokens text list → Tokens text others → list ≡ others }
     ensures list_or_fault { (text : List ℕ) (list : List Token) (fault : TokenError) → Tokens text list → IsFault text fault → ⊥ }
     ensures one_fault { (text : List ℕ) (fault other : TokenError) → IsFault text fault → IsFault text other → fault ≡ other }

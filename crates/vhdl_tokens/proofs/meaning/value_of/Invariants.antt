@@ -1,5 +1,5 @@
 use Rattle.std.proofs.Common.{◌≡◌, List, [], length}
-use Rattle.vhdl_tokens.specs.Meaning.{value_from}
+use Rattle.vhdl_tokens.specs.Values.{value_from}
 use Rattle.vhdl_tokens.proofs.meaning.value_of.Given as goal
 
 abbrev pub invariant-bytes : goal.invariant-bytes

@@ -52,6 +52,7 @@ class_word Hexadecimal b h = at (or_cases (is_in_range 48 57 b || is_in_range 65
     front : (is_in_range 48 57 b ≡ true) ⊎ (is_in_range 65 70 b ≡ true) → is_word_byte b ≡ true
     front (inl e) = let r = in_range 48 57 b e in digit_word b r.0 r.1
     front (inr e) = let r = in_range 65 70 b e in upper_word b r.0 (omega arith)
+
     at : ((is_in_range 48 57 b || is_in_range 65 70 b) ≡ true) ⊎ (is_in_range 97 102 b ≡ true) → is_word_byte b ≡ true
     at (inl e) = front (or_cases (is_in_range 48 57 b) (is_in_range 65 70 b) e)
     at (inr e) = let r = in_range 97 102 b e in lower_word b r.0 (omega arith)
@@ -118,9 +119,11 @@ separator_plain b h = at (or_cases ((eqb b 32 || eqb b 9) || eqb b 10) (eqb b 13
     inner : (eqb b 32 ≡ true) ⊎ (eqb b 9 ≡ true) → (is_ascii_alphabetic b ≡ false) × (is_ascii_digit b ≡ false)
     inner (inl e) = eqb_at (λ b. (is_ascii_alphabetic b ≡ false) × (is_ascii_digit b ≡ false)) b 32 e (refl, refl)
     inner (inr e) = eqb_at (λ b. (is_ascii_alphabetic b ≡ false) × (is_ascii_digit b ≡ false)) b 9 e (refl, refl)
+
     middle : ((eqb b 32 || eqb b 9) ≡ true) ⊎ (eqb b 10 ≡ true) → (is_ascii_alphabetic b ≡ false) × (is_ascii_digit b ≡ false)
     middle (inl e) = inner (or_cases (eqb b 32) (eqb b 9) e)
     middle (inr e) = eqb_at (λ b. (is_ascii_alphabetic b ≡ false) × (is_ascii_digit b ≡ false)) b 10 e (refl, refl)
+
     at : (((eqb b 32 || eqb b 9) || eqb b 10) ≡ true) ⊎ (eqb b 13 ≡ true) → (is_ascii_alphabetic b ≡ false) × (is_ascii_digit b ≡ false)
     at (inl e) = middle (or_cases (eqb b 32 || eqb b 9) (eqb b 10) e)
     at (inr e) = eqb_at (λ b. (is_ascii_alphabetic b ≡ false) × (is_ascii_digit b ≡ false)) b 13 e (refl, refl)
@@ -131,12 +134,15 @@ base_letter b base h = first (eqb b 98 || eqb b 66) refl h
   where
     two : (j k : ℕ) → is_ascii_alphabetic j ≡ true → is_ascii_alphabetic k ≡ true → (eqb b j || eqb b k) ≡ true → is_ascii_alphabetic b ≡ true
     two j k hj hk e = elim (or_cases (eqb b j) (eqb b k) e) as (λ _. is_ascii_alphabetic b ≡ true) [ inl e ↦ eqb_at (λ b. is_ascii_alphabetic b ≡ true) b j e hj | inr e ↦ eqb_at (λ b. is_ascii_alphabetic b ≡ true) b k e hk ]
+
     third : (t : Bool) → (eqb b 120 || eqb b 88) ≡ t → cond t (Some Hexadecimal) None ≡ Some base → is_ascii_alphabetic b ≡ true
     third true is e = two 120 88 refl refl is
     third false is e = absurd cc
+
     second : (t : Bool) → (eqb b 111 || eqb b 79) ≡ t → cond t (Some Octal) (cond (eqb b 120 || eqb b 88) (Some Hexadecimal) None) ≡ Some base → is_ascii_alphabetic b ≡ true
     second true is e = two 111 79 refl refl is
     second false is e = third (eqb b 120 || eqb b 88) refl e
+
     first : (t : Bool) → (eqb b 98 || eqb b 66) ≡ t → cond t (Some Binary) (cond (eqb b 111 || eqb b 79) (Some Octal) (cond (eqb b 120 || eqb b 88) (Some Hexadecimal) None)) ≡ Some base → is_ascii_alphabetic b ≡ true
     first true is e = two 98 66 refl refl is
     first false is e = second (eqb b 111 || eqb b 79) refl e

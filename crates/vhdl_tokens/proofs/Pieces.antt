@@ -61,7 +61,7 @@ pub line_on : (text : List ℕ) (place n : ℕ) (rest : List ℕ) → rest ≡ d
 line_on text place n rest is =
     let cut : take (place + n) text ≡ take place text ++ take n rest = take-add place n text ∙ ap (λ xs. take place text ++ take n xs) (sym is) in
     let counts : count_by (λ b. eqb b 10) (take (place + n) text) ≡ count_by (λ b. eqb b 10) (take place text) + count_by (λ b. eqb b 10) (take n rest) =
-        ap (count_by (λ b. eqb b 10)) cut ∙ sum_by-append (λ b. cond (eqb b 10) 1 0) (take place text) (take n rest) in
+    ap (count_by (λ b. eqb b 10)) cut ∙ sum_by-append (λ b. cond (eqb b 10) 1 0) (take place text) (take n rest) in
     omega arith
 
 -- The reading so far: these pieces, their tokens, and the place and line behind them.
@@ -112,14 +112,14 @@ none_here a text none k bytes behind cut is = let e = found_here a text k bytes 
 pub faults : (text : List ℕ) (tokens : List Token) (place line : ℕ) (after : Bool) (rest : List ℕ) → SoFar text tokens place line after rest → 0 < length rest → piece_at after rest ≡ None → IsFault text (fault_of place (get_or rest 0 0))
 faults text tokens place line after [] so some none = absurd (omega arith)
 faults text tokens place line after (b ∷ rest) so some none = record {
-    pieces = so.pieces;
-    after = after;
-    byte = b;
-    rest = rest;
-    splits = so.splits;
-    no_piece = none_here after (b ∷ rest) none;
-    fault_is = ap (λ n. fault_of n b) so.place_is;
-  }
+  pieces = so.pieces;
+  after = after;
+  byte = b;
+  rest = rest;
+  splits = so.splits;
+  no_piece = none_here after (b ∷ rest) none;
+  fault_is = ap (λ n. fault_of n b) so.place_is;
+}
 
 -- There is one way to read a text.
 record SamePiece (k j : Option Kind) (bytes others behind beyond : List ℕ) : Type 0 where
@@ -161,12 +161,13 @@ same_split (p ∷ ps) [] before a b text r s so too stuck halts =
 same_split (p ∷ ps) (q ∷ qs) before a b text r s so too stuck halts =
     let first = same_piece before text p.kind q.kind p.bytes q.bytes so.0 too.0 so.1 too.1 so.2 too.2 in
     let others : Splits qs (name_behind p.kind before) so.0 b s =
-        subst (λ x. Splits qs (name_behind x before) so.0 b s) (sym first.kind) (subst (λ x. Splits qs (name_behind q.kind before) x b s) (sym first.behind_is) too.3) in
+    subst (λ x. Splits qs (name_behind x before) so.0 b s) (sym first.kind) (subst (λ x. Splits qs (name_behind q.kind before) x b s) (sym first.behind_is) too.3) in
     let rest = same_split ps qs (name_behind p.kind before) a b so.0 r s so.3 others stuck halts in
     record { pieces = joined p q ps qs first.kind first.bytes_are rest.pieces; after = rest.after; rest = rest.rest }
   where
     piece_is : (k j : Option Kind) (bytes others : List ℕ) → k ≡ j → bytes ≡ others → ◌≡◌ {A = Piece} (record { kind = k; bytes = bytes }) (record { kind = j; bytes = others })
     piece_is k j bytes others e d = cc
+
     joined : (p q : Piece) (ps qs : List Piece) → p.kind ≡ q.kind → p.bytes ≡ q.bytes → ps ≡ qs → p ∷ ps ≡ q ∷ qs
     joined p q ps qs e d rest = ap (λ x. x ∷ ps) (piece_is p.kind q.kind p.bytes q.bytes e d) ∙ ap (λ xs. q ∷ xs) rest
 
@@ -238,9 +239,10 @@ only_fault items text (Err (error.BadLiteral place)) ok refusal fault is = inl (
 pub turns : (text : List ℕ) (tokens after_tokens : List Token) (place line lines : ℕ) (after next : Bool) (rest behind front : List ℕ) (f : Found) → SoFar text tokens place line after rest × (line ≤ 1 + place) → Some f ≡ piece_at after rest → after_tokens ≡ tokens ++ token_of f.kind place (place + f.len) line → lines ≡ count_by (λ b. eqb b 10) front → lines ≤ length front → front ≡ take f.len rest → length front ≡ f.len → behind ≡ drop f.len rest → next ≡ name_behind f.kind after → SoFar text after_tokens (place + f.len) (line + lines) next behind × (line + lines ≤ 1 + (place + f.len))
 turns text tokens after_tokens place line lines after next rest behind front f so is tokens_are count few cut size back name =
     let step = goes_on text tokens place line after rest f so.0 (sym is) in
-    let lines_are : lines ≡ count_by (λ b. eqb b 10) (take f.len rest) = count ∙ ap (count_by (λ b. eqb b 10)) cut in
-    (subst (λ ts. SoFar text ts (place + f.len) (line + lines) next behind) (sym tokens_are)
-      (subst (λ n. SoFar text (tokens ++ token_of f.kind place (place + f.len) line) (place + f.len) (line + n) next behind) (sym lines_are)
-      (subst (λ x. SoFar text (tokens ++ token_of f.kind place (place + f.len) line) (place + f.len) (line + count_by (λ b. eqb b 10) (take f.len rest)) x behind) (sym name)
-      (subst (λ x. SoFar text (tokens ++ token_of f.kind place (place + f.len) line) (place + f.len) (line + count_by (λ b. eqb b 10) (take f.len rest)) (name_behind f.kind after) x) (sym back) step))),
-     let bound : line ≤ 1 + place = so.1 in omega arith)
+    let lines_are : lines ≡ count_by (λ b. eqb b 10) (take f.len rest) = count ∙ ap (count_by (λ b. eqb b 10)) cut in (
+      subst (λ ts. SoFar text ts (place + f.len) (line + lines) next behind) (sym tokens_are)
+          (subst (λ n. SoFar text (tokens ++ token_of f.kind place (place + f.len) line) (place + f.len) (line + n) next behind) (sym lines_are)
+          (subst (λ x. SoFar text (tokens ++ token_of f.kind place (place + f.len) line) (place + f.len) (line + count_by (λ b. eqb b 10) (take f.len rest)) x behind) (sym name)
+          (subst (λ x. SoFar text (tokens ++ token_of f.kind place (place + f.len) line) (place + f.len) (line + count_by (λ b. eqb b 10) (take f.len rest)) (name_behind f.kind after) x) (sym back) step))),
+      let bound : line ≤ 1 + place = so.1 in omega arith,
+    )

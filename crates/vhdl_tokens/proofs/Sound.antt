@@ -89,12 +89,14 @@ bits_sound a base letter rest is =
     let digits = take n rest in
     choose (Answers a (letter ∷ 34 ∷ rest)) (are_digits base digits && begins (λ b. b == 34) (drop n rest)) (token kind.Bits (n + 3)) None
     (λ good.
-      let parts = and_parts (are_digits base digits) (begins (λ b. b == 34) (drop n rest)) good in
-      let through = take_through 34 n rest parts.1 in
-      let e : suc (suc (n + 1)) ≡ n + 3 = omega arith in
-      record {
-        within = omega (arith, through.0);
-        piece = (flat_map (bits_of_digit base) digits, record {
+    let parts = and_parts (are_digits base digits) (begins (λ b. b == 34) (drop n rest)) good in
+    let through = take_through 34 n rest parts.1 in
+    let e : suc (suc (n + 1)) ≡ n + 3 = omega arith in
+    record {
+      within = omega (arith, through.0);
+      piece = (
+        flat_map (bits_of_digit base) digits,
+        record {
           letter = letter;
           base = base;
           digits = digits;
@@ -102,8 +104,9 @@ bits_sound a base letter rest is =
           base_is = is;
           digits_are = parts.0;
           bits_are = refl;
-        });
-      })
+        },
+      );
+    })
     (λ other. tt)
 
 word_sound : (a : Bool) (b : ℕ) (more : List ℕ) → is_ascii_alphabetic b ≡ true → Answers a (b ∷ more) (word_at (b ∷ more))
@@ -113,6 +116,7 @@ word_sound a b more letter = by_base more (bits_base (b ∷ more)) refl
     quoted : (q : ℕ) (rest : List ℕ) (base : Class) (t : Bool) → eqb q 34 ≡ t → cond t (base_of b) None ≡ Some base → Answers a (b ∷ q ∷ rest) (bits_at base (b ∷ q ∷ rest))
     quoted q rest base true is e = subst (λ k. Answers a (b ∷ k ∷ rest) (bits_at base (b ∷ k ∷ rest))) (sym (eqb-true q 34 is)) (bits_sound a base b rest e)
     quoted q rest base false is e = absurd cc
+
     by_base : (more : List ℕ) (o : Option Class) → bits_base (b ∷ more) ≡ o → Answers a (b ∷ more) (word_by o (b ∷ more))
     by_base more None e = name_sound a b more letter e
     by_base [] (Some base) e = absurd cc
@@ -120,9 +124,9 @@ word_sound a b more letter = by_base more (bits_base (b ∷ more)) refl
 
 separator_sound : (a : Bool) (b : ℕ) (more : List ℕ) → is_separator b ≡ true → Answers a (b ∷ more) (blank 1)
 separator_sound a b more is = record {
-    within = omega arith;
-    piece = inl (record { byte = b; spelled = refl; separates = is });
-  }
+  within = omega arith;
+  piece = inl (record { byte = b; spelled = refl; separates = is });
+}
 
 -- how a string literal goes on to its end
 record Ends (n : ℕ) (rest : List ℕ) (m : ℕ) : Type 0 where
@@ -142,37 +146,37 @@ Reaches n rest (Some m) = Ends n rest m
 more_byte : (n b : ℕ) (rest : List ℕ) (o : Option ℕ) → eqb b 34 ≡ false → is_graphic b ≡ true → Reaches (n + 1) rest o → Reaches n (b ∷ rest) o
 more_byte n b rest None other graphic so = tt
 more_byte n b rest (Some m) other graphic so = record {
-    count = suc (so.count);
-    sum = omega (arith, so.sum);
-    within = omega (arith, so.within);
-    value = b ∷ so.value;
-    spelled = ap (λ ys. b ∷ ys) so.spelled ∙ ap (λ front. (front ++ flat_map doubled so.value) ++ 34 ∷ []) (sym (cond-false (eqb b 34) (34 ∷ 34 ∷ []) (b ∷ []) other));
-    graphic = and_from (is_graphic b) (list_all is_graphic so.value) graphic so.graphic;
-    longest = so.longest;
-  }
+  count = suc (so.count);
+  sum = omega (arith, so.sum);
+  within = omega (arith, so.within);
+  value = b ∷ so.value;
+  spelled = ap (λ ys. b ∷ ys) so.spelled ∙ ap (λ front. (front ++ flat_map doubled so.value) ++ 34 ∷ []) (sym (cond-false (eqb b 34) (34 ∷ 34 ∷ []) (b ∷ []) other));
+  graphic = and_from (is_graphic b) (list_all is_graphic so.value) graphic so.graphic;
+  longest = so.longest;
+}
 
 more_quote : (n : ℕ) (rest : List ℕ) (o : Option ℕ) → Reaches (n + 2) rest o → Reaches n (34 ∷ 34 ∷ rest) o
 more_quote n rest None so = tt
 more_quote n rest (Some m) so = record {
-    count = suc (suc (so.count));
-    sum = omega (arith, so.sum);
-    within = omega (arith, so.within);
-    value = 34 ∷ so.value;
-    spelled = ap (λ ys. 34 ∷ 34 ∷ ys) so.spelled;
-    graphic = so.graphic;
-    longest = so.longest;
-  }
+  count = suc (suc (so.count));
+  sum = omega (arith, so.sum);
+  within = omega (arith, so.within);
+  value = 34 ∷ so.value;
+  spelled = ap (λ ys. 34 ∷ 34 ∷ ys) so.spelled;
+  graphic = so.graphic;
+  longest = so.longest;
+}
 
 last_quote : (n : ℕ) (rest : List ℕ) → begins (λ b. b == 34) rest ≡ false → Ends n (34 ∷ rest) (n + 1)
 last_quote n rest longest = record {
-    count = 1;
-    sum = refl;
-    within = omega arith;
-    value = [];
-    spelled = refl;
-    graphic = refl;
-    longest = longest;
-  }
+  count = 1;
+  sum = refl;
+  within = omega arith;
+  value = [];
+  spelled = refl;
+  graphic = refl;
+  longest = longest;
+}
 
 choose_reach : (n : ℕ) (rest : List ℕ) (t : Bool) (x y : Option ℕ) → (t ≡ true → Reaches n rest x) → (t ≡ false → Reaches n rest y) → Reaches n rest (cond t x y)
 choose_reach n rest true x y hit miss = hit refl
@@ -190,9 +194,9 @@ text_end_sound n (a ∷ b ∷ more) =
     let next = text_end_sound (n + 1) (b ∷ more) in
     choose_reach n (a ∷ b ∷ more) (eqb a 34) (cond (eqb b 34) (text_end (n + 2) more) (Some (n + 1))) (cond (is_graphic a) (text_end (n + 1) (b ∷ more)) None)
     (λ is. quote_at n a (b ∷ more) (cond (eqb b 34) (text_end (n + 2) more) (Some (n + 1))) is
-      (choose_reach n (34 ∷ b ∷ more) (eqb b 34) (text_end (n + 2) more) (Some (n + 1))
-        (λ too. subst (λ k. Reaches n (34 ∷ k ∷ more) (text_end (n + 2) more)) (sym (eqb-true b 34 too)) (more_quote n more (text_end (n + 2) more) later))
-        (λ other. last_quote n (b ∷ more) other)))
+    (choose_reach n (34 ∷ b ∷ more) (eqb b 34) (text_end (n + 2) more) (Some (n + 1))
+    (λ too. subst (λ k. Reaches n (34 ∷ k ∷ more) (text_end (n + 2) more)) (sym (eqb-true b 34 too)) (more_quote n more (text_end (n + 2) more) later))
+    (λ other. last_quote n (b ∷ more) other)))
     (λ other. choose_reach n (a ∷ b ∷ more) (is_graphic a) (text_end (n + 1) (b ∷ more)) None (λ graphic. more_byte n a (b ∷ more) (text_end (n + 1) (b ∷ more)) other graphic next) (λ bad. tt))
 
 text_sound : (a : Bool) (more : List ℕ) → Answers a (34 ∷ more) (text_to (text_end 1 more))
@@ -215,11 +219,11 @@ char_sound (b ∷ []) = tt
 char_sound (b ∷ c ∷ more) =
     choose (Answers false (39 ∷ b ∷ c ∷ more)) (is_graphic b && eqb c 39) (token kind.Char 3) None
     (λ good.
-      let parts = and_parts (is_graphic b) (eqb c 39) good in
-      record {
-        within = omega arith;
-        piece = (b, record { spelled = ap (λ k. 39 ∷ b ∷ k ∷ []) (eqb-true c 39 parts.1); graphic = parts.0 }, refl);
-      })
+    let parts = and_parts (is_graphic b) (eqb c 39) good in
+    record {
+      within = omega arith;
+      piece = (b, record { spelled = ap (λ k. 39 ∷ b ∷ k ∷ []) (eqb-true c 39 parts.1); graphic = parts.0 }, refl);
+    })
     (λ other. tt)
 
 tick_whole : (rest : List ℕ) → goes_on 39 rest ≡ false
@@ -259,11 +263,11 @@ open_longer a b (c ∷ more) (suc (suc count)) other closed = and_from (not (is_
 shuts_later : (n a b : ℕ) (more : List ℕ) (o : Option ℕ) → is_closing a b ≡ false → Shuts (n + 1) (b ∷ more) o → Shuts n (a ∷ b ∷ more) o
 shuts_later n a b more None other so = tt
 shuts_later n a b more (Some m) other so = record {
-    count = suc (so.count);
-    sum = omega (arith, so.sum);
-    within = omega (arith, so.within);
-    closed = open_longer a b more so.count other so.closed;
-  }
+  count = suc (so.count);
+  sum = omega (arith, so.sum);
+  within = omega (arith, so.within);
+  closed = open_longer a b more so.count other so.closed;
+}
 
 block_end_sound : (n : ℕ) (rest : List ℕ) → Shuts n rest (block_end n rest)
 unfolding block_end
@@ -301,16 +305,16 @@ mark_sound a b [] other = single_sound a b [] (single b) refl refl other
 mark_sound a b (c ∷ more) other =
     choose (Answers a (b ∷ c ∷ more)) (is_dashes b c) (blank (2 + prefix_len is_on_line more)) (cond (is_opening b c) (block_to (block_end 2 more)) (double_at (double b c) b))
     (λ dashes.
-      let parts = and_parts (eqb b 45) (eqb c 45) dashes in
-      subst (λ k. Stands a (k ∷ c ∷ more) None (2 + prefix_len is_on_line more)) (sym (eqb-true b 45 parts.0))
-      (subst (λ k. Stands a (45 ∷ k ∷ more) None (2 + prefix_len is_on_line more)) (sym (eqb-true c 45 parts.1)) (line_sound a more)))
+    let parts = and_parts (eqb b 45) (eqb c 45) dashes in
+    subst (λ k. Stands a (k ∷ c ∷ more) None (2 + prefix_len is_on_line more)) (sym (eqb-true b 45 parts.0))
+    (subst (λ k. Stands a (45 ∷ k ∷ more) None (2 + prefix_len is_on_line more)) (sym (eqb-true c 45 parts.1)) (line_sound a more)))
     (λ plain.
-      choose (Answers a (b ∷ c ∷ more)) (is_opening b c) (block_to (block_end 2 more)) (double_at (double b c) b)
-      (λ opening.
-        let parts = and_parts (eqb b 47) (eqb c 42) opening in
-        subst (λ k. Answers a (k ∷ c ∷ more) (block_to (block_end 2 more))) (sym (eqb-true b 47 parts.0))
-        (subst (λ k. Answers a (47 ∷ k ∷ more) (block_to (block_end 2 more))) (sym (eqb-true c 42 parts.1)) (block_sound a more)))
-      (λ opens. by_double (double b c) refl plain opens))
+    choose (Answers a (b ∷ c ∷ more)) (is_opening b c) (block_to (block_end 2 more)) (double_at (double b c) b)
+    (λ opening.
+    let parts = and_parts (eqb b 47) (eqb c 42) opening in
+    subst (λ k. Answers a (k ∷ c ∷ more) (block_to (block_end 2 more))) (sym (eqb-true b 47 parts.0))
+    (subst (λ k. Answers a (47 ∷ k ∷ more) (block_to (block_end 2 more))) (sym (eqb-true c 42 parts.1)) (block_sound a more)))
+    (λ opens. by_double (double b c) refl plain opens))
   where
     by_double : (o : Option Delimiter) → double b c ≡ o → is_dashes b c ≡ false → is_opening b c ≡ false → Answers a (b ∷ c ∷ more) (double_at o b)
     by_double (Some d) is dashes opening = record { within = omega arith; piece = is }

@@ -65,11 +65,13 @@ all_spelled whole (p ∷ pieces) before after text rest place here so =
   where
     joined : (k : Option Kind) (bytes behind : List ℕ) → drop place whole ≡ bytes ++ behind → IsPiece k before bytes behind → AllByRecursion (IsTokenOf whole) (tokens_of whole (place + length bytes) pieces) → AllByRecursion (IsTokenOf whole) (token_of k place (place + length bytes) (line_at whole place) ++ tokens_of whole (place + length bytes) pieces)
     joined None bytes behind cut is later = later
-    joined (Some k) bytes behind cut is later =
-        (record {
-          within = fits whole bytes behind place (positive (Some k) before bytes behind is) cut;
-          spelled = subst (IsSpelled k) (sym (seam whole bytes behind place cut)) (piece_spelled k before bytes behind is);
-        }, later)
+    joined (Some k) bytes behind cut is later = (
+      record {
+        within = fits whole bytes behind place (positive (Some k) before bytes behind is) cut;
+        spelled = subst (IsSpelled k) (sym (seam whole bytes behind place cut)) (piece_spelled k before bytes behind is);
+      },
+      later,
+    )
 
 all_in_order : (whole : List ℕ) (pieces : List Piece) (before after : Bool) (text rest : List ℕ) (low place : ℕ) → low ≤ place → Splits pieces before text after rest → StandInOrder low (tokens_of whole place pieces)
 all_in_order whole [] before after text rest low place below so = tt

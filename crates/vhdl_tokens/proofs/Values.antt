@@ -96,6 +96,7 @@ graphic_front front v value other graphic = at (tail_of value) (some value)
   where
     some : (value : List ℕ) → 0 < length (tail_of value)
     some value = omega (arith, length-append (flat_map doubled value) (34 ∷ []))
+
     at : (rest : List ℕ) → 0 < length rest → value_from front (v ∷ rest) ≡ value_from (front ++ v ∷ []) rest
     at [] h = absurd (omega arith)
     at (b ∷ more) h = graphic_step front v b more other graphic
@@ -135,20 +136,20 @@ gives_end front = record { value = []; joined = nil front; spelled = refl; graph
 gives_byte : (front : List ℕ) (a : ℕ) (rest : List ℕ) (o : Option (List ℕ)) → eqb a 34 ≡ false → is_graphic a ≡ true → Gives (front ++ a ∷ []) rest o → Gives front (a ∷ rest) o
 gives_byte front a rest None other graphic so = tt
 gives_byte front a rest (Some v) other graphic so = record {
-    value = a ∷ so.value;
-    joined = so.joined ∙ append_assoc front (a ∷ []) so.value;
-    spelled = ap (λ ys. a ∷ ys) so.spelled ∙ ap (λ ys. (ys ++ flat_map doubled so.value) ++ 34 ∷ []) (sym (cond-false (eqb a 34) (34 ∷ 34 ∷ []) (a ∷ []) other));
-    graphic = and_from (is_graphic a) (list_all is_graphic so.value) graphic so.graphic;
-  }
+  value = a ∷ so.value;
+  joined = so.joined ∙ append_assoc front (a ∷ []) so.value;
+  spelled = ap (λ ys. a ∷ ys) so.spelled ∙ ap (λ ys. (ys ++ flat_map doubled so.value) ++ 34 ∷ []) (sym (cond-false (eqb a 34) (34 ∷ 34 ∷ []) (a ∷ []) other));
+  graphic = and_from (is_graphic a) (list_all is_graphic so.value) graphic so.graphic;
+}
 
 gives_quote : (front rest : List ℕ) (o : Option (List ℕ)) → Gives (front ++ 34 ∷ []) rest o → Gives front (34 ∷ 34 ∷ rest) o
 gives_quote front rest None so = tt
 gives_quote front rest (Some v) so = record {
-    value = 34 ∷ so.value;
-    joined = so.joined ∙ append_assoc front (34 ∷ []) so.value;
-    spelled = ap (λ ys. 34 ∷ 34 ∷ ys) so.spelled;
-    graphic = so.graphic;
-  }
+  value = 34 ∷ so.value;
+  joined = so.joined ∙ append_assoc front (34 ∷ []) so.value;
+  spelled = ap (λ ys. 34 ∷ 34 ∷ ys) so.spelled;
+  graphic = so.graphic;
+}
 
 choose : (P : Option (List ℕ) → Type 0) (t : Bool) (x y : Option (List ℕ)) → (t ≡ true → P x) → (t ≡ false → P y) → P (cond t x y)
 choose P true x y hit miss = hit refl
@@ -164,12 +165,12 @@ gives front (a ∷ b ∷ more) =
     let next = gives (front ++ a ∷ []) (b ∷ more) in
     choose (Gives front (a ∷ b ∷ more)) (eqb a 34) (cond (eqb b 34) (value_from (front ++ 34 ∷ []) more) None) (cond (is_graphic a) (value_from (front ++ a ∷ []) (b ∷ more)) None)
     (λ is. choose (Gives front (a ∷ b ∷ more)) (eqb b 34) (value_from (front ++ 34 ∷ []) more) None
-      (λ too. subst (λ k. Gives front (k ∷ b ∷ more) (value_from (front ++ 34 ∷ []) more)) (sym (eqb-true a 34 is))
-        (subst (λ k. Gives front (34 ∷ k ∷ more) (value_from (front ++ 34 ∷ []) more)) (sym (eqb-true b 34 too)) (gives_quote front more (value_from (front ++ 34 ∷ []) more) later)))
-      (λ other. tt))
+    (λ too. subst (λ k. Gives front (k ∷ b ∷ more) (value_from (front ++ 34 ∷ []) more)) (sym (eqb-true a 34 is))
+    (subst (λ k. Gives front (34 ∷ k ∷ more) (value_from (front ++ 34 ∷ []) more)) (sym (eqb-true b 34 too)) (gives_quote front more (value_from (front ++ 34 ∷ []) more) later)))
+    (λ other. tt))
     (λ other. choose (Gives front (a ∷ b ∷ more)) (is_graphic a) (value_from (front ++ a ∷ []) (b ∷ more)) None
-      (λ graphic. gives_byte front a (b ∷ more) (value_from (front ++ a ∷ []) (b ∷ more)) other graphic next)
-      (λ bad. tt))
+    (λ graphic. gives_byte front a (b ∷ more) (value_from (front ++ a ∷ []) (b ∷ more)) other graphic next)
+    (λ bad. tt))
 
 text_again : (bytes value : List ℕ) → IsText bytes value → text_value bytes ≡ Some value
 text_again bytes value is = ap text_value is.spelled ∙ value_again [] value is.graphic
@@ -186,9 +187,10 @@ text_found (a ∷ more) value is = at (eqb a 34) refl is
     spells : (o : Option (List ℕ)) → Gives [] more o → o ≡ Some value → IsText (34 ∷ more) value
     spells None so e = absurd cc
     spells (Some v) so e = record {
-        spelled = ap (λ ys. 34 ∷ ys) so.spelled ∙ ap (λ ys. 34 ∷ tail_of ys) (sym so.joined ∙ same_Some v value e);
-        graphic = ap (list_all is_graphic) (sym (same_Some v value e) ∙ so.joined) ∙ so.graphic;
-      }
+      spelled = ap (λ ys. 34 ∷ ys) so.spelled ∙ ap (λ ys. 34 ∷ tail_of ys) (sym so.joined ∙ same_Some v value e);
+      graphic = ap (list_all is_graphic) (sym (same_Some v value e) ∙ so.joined) ∙ so.graphic;
+    }
+
     at : (q : Bool) → eqb a 34 ≡ q → cond q (value_from [] more) None ≡ Some value → IsText (a ∷ more) value
     at true is e = subst (λ k. IsText (k ∷ more) value) (sym (eqb-true a 34 is)) (spells (value_from [] more) (gives [] more) e)
     at false is e = absurd cc
@@ -226,6 +228,7 @@ bits_found bytes bits is = by_base bytes (bits_base bytes) refl is
     quote_is [] e = absurd cc
     quote_is (a ∷ []) e = ap (λ k. k ∷ []) (eqb-true a 34 e)
     quote_is (a ∷ b ∷ more) e = absurd cc
+
     here : (base : Class) (letter : ℕ) (more digits behind : List ℕ) (t : Bool) → base_of letter ≡ Some base → digits ++ behind ≡ more → (are_digits base digits && is_quote behind) ≡ t → cond t (Some (flat_map (bits_at base) digits)) None ≡ Some bits → IsBits (letter ∷ 34 ∷ more) bits
     here base letter more digits behind true base_is cut good e =
         let parts = and_parts (are_digits base digits) (is_quote behind) good in
@@ -239,11 +242,13 @@ bits_found bytes bits is = by_base bytes (bits_base bytes) refl is
           bits_are = sym (same_Some (flat_map (bits_at base) digits) bits e);
         }
     here base letter more digits behind false base_is cut good e = absurd cc
+
     quoted : (letter q : ℕ) (more : List ℕ) (base : Class) (t : Bool) → eqb q 34 ≡ t → cond t (base_of letter) None ≡ Some base → bits_quoted base (letter ∷ q ∷ more) ≡ Some bits → IsBits (letter ∷ q ∷ more) bits
     quoted letter q more base true is base_is e =
         subst (λ k. IsBits (letter ∷ k ∷ more) bits) (sym (eqb-true q 34 is))
         (here base letter more (take (prefix_len is_word_byte more) more) (drop (prefix_len is_word_byte more) more) _ base_is (take-append-drop (prefix_len is_word_byte more) more) refl e)
     quoted letter q more base false is base_is e = absurd cc
+
     by_base : (bytes : List ℕ) (o : Option Class) → bits_base bytes ≡ o → bits_by o bytes ≡ Some bits → IsBits bytes bits
     by_base bytes None base_is e = absurd cc
     by_base [] (Some base) base_is e = absurd cc

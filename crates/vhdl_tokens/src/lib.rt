@@ -3,11 +3,14 @@
 
 mod bytes;
 mod meaning;
+mod reading;
 mod reserved;
 mod scan;
 mod token;
-mod reading;
 
-pub use token::{Delimiter, Kind, Reserved, Token, TokenError};
 pub use meaning::{bits, character, identifier, integer, one_value, span, string};
 pub use reading::{TEXT_LIMIT, one_reading, tokens};
+pub use token::{Delimiter, Kind, Reserved, Token, TokenError};
+
+#[cfg(test)]
+mod tests;

@@ -8,11 +8,10 @@ ghost use Rattle.vhdl_tokens.specs.Spelling.{IsChar, IsText, IsBits, digit_value
 ghost use Rattle.vhdl_tokens.specs.Meaning.{span, identifier_of, integer_of, Means};
 ghost use Rattle.vhdl_tokens.specs.Values.{char_value, text_value, value_from, is_quote, bits_in, bits_quoted, bits_value};
 
-use std::alloc::{AllocError, Global};
-
 use crate::bytes::{Class, is_graphic};
 use crate::scan::{self, TextStep, are_digits, bits_base, run_len, text_step};
 use crate::token::Token;
+use std::alloc::{AllocError, Global};
 
 /// The bytes of a token of the text. Of a token that reaches beyond the text's end it is what there is.
 pub fn span<'a>(text: &'a [u8], token: &Token) -> &'a [u8]
@@ -161,7 +160,12 @@ fn is_quote(bytes: &[u8]) -> bool
     }
 }
 
-fn bits_in(alloc: Global, base: Class, digits: &[u8], behind: &[u8]) -> Result<Option<Vec<bool>>, AllocError>
+fn bits_in(
+    alloc: Global,
+    base: Class,
+    digits: &[u8],
+    behind: &[u8],
+) -> Result<Option<Vec<bool>>, AllocError>
     ensures { IfOk result (λ value. option_map (λ v. v.items) value ≡ bits_in base digits.now behind.now) }
 {
     if !are_digits(base, digits) || !is_quote(behind) {
@@ -205,5 +209,4 @@ pub fn one_value()
     ensures byte { (bytes : List ℕ) (value other : ℕ) → IsChar bytes value → IsChar bytes other → value ≡ other }
     ensures text { (bytes value other : List ℕ) → IsText bytes value → IsText bytes other → value ≡ other }
     ensures bits { (bytes : List ℕ) (value other : List Bool) → IsBits bytes value → IsBits bytes other → value ≡ other }
-{
-}
+{}

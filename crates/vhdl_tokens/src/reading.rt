@@ -6,10 +6,9 @@ ghost use Rattle.vhdl_tokens.specs.declared.token.TokenError.{TokenError};
 ghost use Rattle.vhdl_tokens.specs.Text.{Tokens, IsFault, Refuses, is_name_end, name_behind, token_of, begins_token, fault_of};
 ghost use Rattle.vhdl_tokens.specs.Meaning.{IsTokenOf, StandInOrder};
 
-use std::alloc::Global;
-
 use crate::scan::{piece_at, single};
 use crate::token::{Delimiter, Kind, Reserved, Token, TokenError};
+use std::alloc::Global;
 
 /// How many bytes a text may have.
 pub const TEXT_LIMIT: usize = 1_048_576;
@@ -143,5 +142,4 @@ pub fn one_reading()
     ensures one_list { (text : List ℕ) (list others : List Token) → Tokens text list → Tokens text others → list ≡ others }
     ensures list_or_fault { (text : List ℕ) (list : List Token) (fault : TokenError) → Tokens text list → IsFault text fault → ⊥ }
     ensures one_fault { (text : List ℕ) (fault other : TokenError) → IsFault text fault → IsFault text other → fault ≡ other }
-{
-}
+{}

@@ -1,10 +1,9 @@
 //! What a text is read into.
 
+pub use crate::reserved::Reserved;
 use std::alloc::{AllocError, AllocFailed};
 use std::error::Error;
 use std::fmt;
-
-pub use crate::reserved::Reserved;
 
 /// A delimiter (IEEE Std 1076-2008, 15.3).
 #[derive(Clone, Copy, Debug, PartialEq, Eq)]

@@ -26,7 +26,8 @@ pub fn span<'a>(text: &'a [u8], token: &Token) -> &'a [u8]
 
 /// The name of an identifier or reserved word in lower case, where the token is one.
 pub fn identifier(alloc: Global, text: &[u8], token: &Token) -> Result<Option<Vec<u8>>, AllocError>
-    ensures { IfOk result (λ name. option_map (λ v. v.items) name ≡ identifier_of (span text.now token.now)) }
+    ensures { IfOk result (λ name.
+        option_map (λ v. v.items) name ≡ identifier_of (span text.now token.now)) }
 {
     let name = span(text, token);
     if !scan::is_identifier(name) {
@@ -100,7 +101,8 @@ fn text_value(alloc: Global, bytes: &[u8]) -> Result<Option<Vec<u8>>, AllocError
 
 /// The bytes of a string literal, where the token is one: a doubled quotation mark is one byte.
 pub fn string(alloc: Global, text: &[u8], token: &Token) -> Result<Option<Vec<u8>>, AllocError>
-    ensures { IfOk result (λ value. Means (IsText (span text.now token.now)) (option_map (λ v. v.items) value)) }
+    ensures { IfOk result (λ value.
+        Means (IsText (span text.now token.now)) (option_map (λ v. v.items) value)) }
 {
     text_value(alloc, span(text, token))
 }
@@ -199,14 +201,18 @@ fn bits_value(alloc: Global, bytes: &[u8]) -> Result<Option<Vec<bool>>, AllocErr
 /// The bits of a bit string literal, where the token is one, the leftmost first. Each digit is one, three
 /// or four of them.
 pub fn bits(alloc: Global, text: &[u8], token: &Token) -> Result<Option<Vec<bool>>, AllocError>
-    ensures { IfOk result (λ value. Means (IsBits (span text.now token.now)) (option_map (λ v. v.items) value)) }
+    ensures { IfOk result (λ value.
+        Means (IsBits (span text.now token.now)) (option_map (λ v. v.items) value)) }
 {
     bits_value(alloc, span(text, token))
 }
 
 /// Bytes spell one value: one byte, one list of bytes or one list of bits.
 pub fn one_value()
-    ensures byte { (bytes : List ℕ) (value other : ℕ) → IsChar bytes value → IsChar bytes other → value ≡ other }
-    ensures text { (bytes value other : List ℕ) → IsText bytes value → IsText bytes other → value ≡ other }
-    ensures bits { (bytes : List ℕ) (value other : List Bool) → IsBits bytes value → IsBits bytes other → value ≡ other }
+    ensures byte { (bytes : List ℕ) (value other : ℕ) →
+        IsChar bytes value → IsChar bytes other → value ≡ other }
+    ensures text { (bytes value other : List ℕ) →
+        IsText bytes value → IsText bytes other → value ≡ other }
+    ensures bits { (bytes : List ℕ) (value other : List Bool) →
+        IsBits bytes value → IsBits bytes other → value ≡ other }
 {}

@@ -130,16 +130,22 @@ pub fn tokens(alloc: Global, text: &[u8]) -> Result<Vec<Token>, TokenError>
     ensures in_order { IfOk result (λ v. StandInOrder 0 v.items) }
 
     // What is so is answered, unless memory runs out.
-    ensures only_list { (list : List Token) → Tokens text.now list → IsOkAnd result (λ v. v.items ≡ list) ⊎ IsErrOf result TokenError.NoMemory }
-    ensures only_fault { (fault : TokenError) → IsFault text.now fault → IsErrOf result fault ⊎ IsErrOf result TokenError.NoMemory }
+    ensures only_list { (list : List Token) → Tokens text.now list →
+        IsOkAnd result (λ v. v.items ≡ list) ⊎ IsErrOf result TokenError.NoMemory }
+    ensures only_fault { (fault : TokenError) → IsFault text.now fault →
+        IsErrOf result fault ⊎ IsErrOf result TokenError.NoMemory }
 {
     read(alloc, text)
 }
 
 /// A text is one list of tokens, or has one first fault, and not both.
 pub fn one_reading()
-    ensures some { (text : List ℕ) → ((list : List Token) × Tokens text list) ⊎ ((fault : TokenError) × IsFault text fault) }
-    ensures one_list { (text : List ℕ) (list others : List Token) → Tokens text list → Tokens text others → list ≡ others }
-    ensures list_or_fault { (text : List ℕ) (list : List Token) (fault : TokenError) → Tokens text list → IsFault text fault → ⊥ }
-    ensures one_fault { (text : List ℕ) (fault other : TokenError) → IsFault text fault → IsFault text other → fault ≡ other }
+    ensures some { (text : List ℕ) →
+        ((list : List Token) × Tokens text list) ⊎ ((fault : TokenError) × IsFault text fault) }
+    ensures one_list { (text : List ℕ) (list others : List Token) →
+        Tokens text list → Tokens text others → list ≡ others }
+    ensures list_or_fault { (text : List ℕ) (list : List Token) (fault : TokenError) →
+        Tokens text list → IsFault text fault → ⊥ }
+    ensures one_fault { (text : List ℕ) (fault other : TokenError) →
+        IsFault text fault → IsFault text other → fault ≡ other }
 {}

@@ -3,7 +3,6 @@
 
 use std::alloc::{AllocError, Global};
 use std::{env, fs, io};
-
 use vhdl_tokens::{TEXT_LIMIT, Token, TokenError, tokens};
 
 // How many tokens there are, and the line of the last one.

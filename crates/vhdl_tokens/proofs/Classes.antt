@@ -1,15 +1,15 @@
 -- What the classes of bytes have to do with each other.
-use Rattle.std.proofs.Common.{◌≡◌, ℕ, ◌+◌, ◌<◌, ◌≤◌, ◌⊎◌, Bool, true, false, ◌&&◌, ◌||◌, not, cond, eqb, ltb, leb, Option, Some, None, List, [], ◌∷◌, ◌++◌, length, take, drop, suc, refl, sym, ap, ◌∙◌, subst, inl, inr, arith}
+use Rattle.std.proofs.Common.{◌≡◌, ℕ, ◌+◌, ◌<◌, ◌≤◌, ◌⊎◌, Bool, true, false, ◌||◌, cond, eqb, leb, Some, None, List, [], ◌∷◌, ◌++◌, length, take, drop, suc, refl, sym, ◌∙◌, subst, inl, inr, arith}
 use Rattle.std.specs.Int.{is_in_range}
 use Rattle.std.specs.List.{list_all, prefix_len}
-use Rattle.std.specs.Char.{is_ascii_alphabetic, is_ascii_alphanumeric, is_ascii_digit, is_ascii_hexdigit}
-use Rattle.std.proofs.lemmas.Bool.{cond-true, cond-false, and_parts, and_from, or_cases, or_parts, or_left, or_right, or_from, leb-true, leb-false, le-leb, lt-leb, eqb-true, eqb-false, eq-eqb, ne_eqb}
+use Rattle.std.specs.Char.{is_ascii_alphabetic, is_ascii_alphanumeric, is_ascii_digit}
+use Rattle.std.proofs.lemmas.Bool.{cond-true, cond-false, and_parts, and_from, or_cases, or_left, or_right, or_from, leb-true, le-leb, lt-leb, eqb-true}
 use Rattle.vhdl_tokens.specs.declared.bytes.Class.{Class}
 use Rattle.vhdl_tokens.specs.declared.bytes.Class.TheVariants.{Name, Decimal, Binary, Octal, Hexadecimal}
-use Rattle.vhdl_tokens.specs.Bytes.{is_word_byte, is_graphic, is_separator, belongs, base_of}
+use Rattle.vhdl_tokens.specs.Bytes.{is_word_byte, is_separator, belongs, base_of}
 use Rattle.vhdl_tokens.specs.Spelling.{begins, is_spaced}
 
-in_range : (lo hi b : ℕ) → is_in_range lo hi b ≡ true → (lo ≤ b) × (b ≤ hi)
+pub in_range : (lo hi b : ℕ) → is_in_range lo hi b ≡ true → (lo ≤ b) × (b ≤ hi)
 in_range lo hi b h = let p = and_parts (leb lo b) (leb b hi) h in (leb-true lo b p.0, leb-true b hi p.1)
 
 within : (lo hi b : ℕ) → lo ≤ b → b ≤ hi → is_in_range lo hi b ≡ true
@@ -17,13 +17,6 @@ within lo hi b low high = and_from (leb lo b) (leb b hi) (le-leb lo b low) (le-l
 
 below : (lo hi b : ℕ) → b < lo → is_in_range lo hi b ≡ false
 below lo hi b low = rw (lt-leb lo b low) refl
-
-above : (lo hi b : ℕ) → hi < b → is_in_range lo hi b ≡ false
-above lo hi b high = at (leb lo b)
-  where
-    at : (t : Bool) → (t && leb b hi) ≡ false
-    at true = lt-leb b hi high
-    at false = refl
 
 -- a digit or a letter is a word byte
 digit_word : (b : ℕ) → 48 ≤ b → b ≤ 57 → is_word_byte b ≡ true
@@ -57,13 +50,13 @@ class_word Hexadecimal b h = at (or_cases (is_in_range 48 57 b || is_in_range 65
     at (inl e) = front (or_cases (is_in_range 48 57 b) (is_in_range 65 70 b) e)
     at (inr e) = let r = in_range 97 102 b e in lower_word b r.0 (omega arith)
 
--- a letter is a word byte
-pub letter_word : (b : ℕ) → is_ascii_alphabetic b ≡ true → is_word_byte b ≡ true
-letter_word b h = at (or_cases (is_in_range 65 90 b) (is_in_range 97 122 b) h)
+-- a letter may stand in a name
+pub letter_name : (b : ℕ) → is_ascii_alphabetic b ≡ true → is_ascii_alphanumeric b ≡ true
+letter_name b h = at (or_cases (is_in_range 65 90 b) (is_in_range 97 122 b) h)
   where
-    at : (is_in_range 65 90 b ≡ true) ⊎ (is_in_range 97 122 b ≡ true) → is_word_byte b ≡ true
-    at (inl e) = let r = in_range 65 90 b e in upper_word b r.0 r.1
-    at (inr e) = let r = in_range 97 122 b e in lower_word b r.0 r.1
+    at : (is_in_range 65 90 b ≡ true) ⊎ (is_in_range 97 122 b ≡ true) → is_ascii_alphanumeric b ≡ true
+    at (inl e) = or_left (is_in_range 48 57 b || is_in_range 65 90 b) (is_in_range 97 122 b) (or_right (is_in_range 48 57 b) (is_in_range 65 90 b) e)
+    at (inr e) = or_right (is_in_range 48 57 b || is_in_range 65 90 b) (is_in_range 97 122 b) e
 
 -- a digit is no letter
 pub digit_no_letter : (b : ℕ) → is_ascii_digit b ≡ true → is_ascii_alphabetic b ≡ false

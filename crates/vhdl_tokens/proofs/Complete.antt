@@ -1,26 +1,24 @@
 -- Where a piece stands at the front of a text, it is what is found there.
-use Rattle.std.proofs.Common.{◌≡◌, ℕ, ◌+◌, ◌<◌, ◌≤◌, ◌⊎◌, Bool, true, false, ◌==◌, ◌&&◌, ◌||◌, not, cond, eqb, Option, Some, None, List, [], ◌∷◌, ◌++◌, length, take, drop, suc, refl, sym, ap, ◌∙◌, subst, inl, inr, arith, append_assoc, length-append}
+use Rattle.std.proofs.Common.{◌≡◌, ℕ, ◌+◌, Bool, true, false, ◌==◌, ◌||◌, not, cond, eqb, Option, Some, None, List, [], ◌∷◌, ◌++◌, length, take, drop, refl, sym, ap, ◌∙◌, subst, inl, inr, arith, append_assoc, length-append}
 use Rattle.std.proofs.Math.Seq.{take-append_seam}
 use Rattle.std.proofs.lemmas.List.{drop_at}
 use Rattle.std.specs.List.{list_all, flat_map, prefix_len}
 use Rattle.std.specs.Option.{is_some}
 use Rattle.std.specs.Char.{is_ascii_alphabetic, is_ascii_digit}
-use Rattle.std.proofs.lemmas.Bool.{cond-true, cond-false, and_parts, or_parts, eqb-true, not-true}
-use Rattle.vhdl_tokens.specs.declared.scan.Found.{Found}
+use Rattle.std.proofs.lemmas.Bool.{cond-true, and_parts, or_parts, eqb-true, not-true}
 use Rattle.vhdl_tokens.specs.declared.bytes.Class.{Class}
 use Rattle.vhdl_tokens.specs.declared.bytes.Class.TheVariants.{Name, Decimal}
 use Rattle.vhdl_tokens.specs.declared.token.Kind.{Kind}
 use Rattle.vhdl_tokens.specs.declared.token.Kind.TheVariants as kind
 use Rattle.vhdl_tokens.specs.declared.token.Delimiter.{Delimiter}
 use Rattle.vhdl_tokens.specs.declared.token.Delimiter.TheVariants as delimiter
-use Rattle.vhdl_tokens.specs.declared.reserved.Reserved.{Reserved}
-use Rattle.vhdl_tokens.specs.Bytes.{is_word_byte, is_graphic, is_separator, belongs, base_of}
+use Rattle.vhdl_tokens.specs.Bytes.{is_word_byte, is_graphic, is_separator}
 use Rattle.vhdl_tokens.specs.Reserved.{reserved_word}
 use Rattle.vhdl_tokens.specs.Delimiters.{single, double, goes_on, is_dashes, is_opening, is_closing}
-use Rattle.vhdl_tokens.specs.Spelling.{begins, is_spaced, is_identifier, is_integer, is_small, number, IsChar, IsText, IsBits, IsSeparator, IsLineComment, IsBlockComment, doubled, are_digits, is_on_line, is_closed}
+use Rattle.vhdl_tokens.specs.Spelling.{begins, is_spaced, is_integer, is_small, number, IsChar, IsText, IsBits, IsSeparator, IsLineComment, IsBlockComment, doubled, are_digits, is_on_line, is_closed}
 use Rattle.vhdl_tokens.specs.Text.{bits_base, IsWord, IsDelimiter, IsPiece}
-use Rattle.vhdl_tokens.specs.Scan.{blank, token, run_len, kind_of_word, name_in, name_at, integer_in, integer_at, bits_in, bits_at, word_by, word_at, text_end, text_to, block_end, block_to, char_at, tick_at, single_at, double_at, mark_at, piece_at}
-use Rattle.vhdl_tokens.proofs.Classes.{letter_word, digit_no_letter, spaced_word, spaced_first, prefix_whole, separator_plain, base_letter}
+use Rattle.vhdl_tokens.specs.Scan.{blank, token, run_len, kind_of_word, name_in, name_at, integer_in, integer_at, bits_in, bits_at, word_at, text_end, text_to, block_end, block_to, char_at, single_at, mark_at, piece_at}
+use Rattle.vhdl_tokens.proofs.Classes.{digit_no_letter, spaced_word, spaced_first, prefix_whole, separator_plain, base_letter}
 use Rattle.vhdl_tokens.proofs.Lengths.{graphic_step, quote_step}
 use Rattle.vhdl_tokens.proofs.Marks.{Plain, PlainPair, single_plain, double_plain}
 

@@ -1,6 +1,5 @@
 -- The loops that look for the end of a piece.
 use Rattle.std.proofs.Common.{◌≡◌, ℕ, ◌+◌, ◌<◌, ◌≤◌, Bool, true, false, cond, eqb, Option, Some, None, List, [], ◌∷◌, length, drop, refl, sym, ap, ◌∙◌, subst, arith}
-use Rattle.std.proofs.lemmas.Bool.{cond-true, cond-false}
 use Rattle.vhdl_tokens.specs.declared.scan.TextStep.{TextStep}
 use Rattle.vhdl_tokens.specs.declared.scan.TextStep.TheVariants.{Takes, Ends, Breaks}
 use Rattle.vhdl_tokens.specs.Bytes.{is_graphic}

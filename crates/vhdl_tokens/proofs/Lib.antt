@@ -1,5 +1,6 @@
 pub mod Classes
 pub mod Complete
+pub mod FirstBytes
 pub mod Lengths
 pub mod Marks
 pub mod Numbers

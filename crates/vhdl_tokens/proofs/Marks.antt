@@ -1,10 +1,9 @@
 -- The delimiters by their bytes.
-use Rattle.std.proofs.Common.{◌≡◌, ℕ, ◌+◌, ◌<◌, ◌≤◌, ◌⊎◌, Bool, true, false, ◌&&◌, ◌||◌, not, cond, eqb, Option, Some, None, List, [], ◌∷◌, refl, sym, ap, ◌∙◌, subst, arith}
+use Rattle.std.proofs.Common.{◌≡◌, ℕ, Bool, true, false, ◌&&◌, cond, eqb, Option, Some, refl, sym, subst}
 use Rattle.std.specs.Char.{is_ascii_alphabetic, is_ascii_digit}
 use Rattle.std.specs.Option.{is_some}
 use Rattle.std.proofs.lemmas.Bool.{eqb-true, and_parts}
 use Rattle.vhdl_tokens.specs.declared.token.Delimiter.{Delimiter}
-use Rattle.vhdl_tokens.specs.declared.token.Delimiter.TheVariants as delimiter
 use Rattle.vhdl_tokens.specs.Bytes.{is_separator}
 use Rattle.vhdl_tokens.specs.Delimiters.{single, double, is_dashes, is_opening}
 
@@ -51,6 +50,7 @@ pub record PlainPair (a b : ℕ) : Type 0 where
   pub apostrophe : eqb a 39 ≡ false
   pub dashes : is_dashes a b ≡ false
   pub opening : is_opening a b ≡ false
+  pub alone : is_some (single a) ≡ true
 
 pair : (a b j k : ℕ) (x d : Delimiter) (rest : Option Delimiter) → PlainPair j k → (rest ≡ Some d → PlainPair a b) → cond (eqb a j && eqb b k) (Some x) rest ≡ Some d → PlainPair a b
 pair a b j k x d rest known next h = at (eqb a j && eqb b k) refl h
@@ -61,15 +61,15 @@ pair a b j k x d rest known next h = at (eqb a j && eqb b k) refl h
         subst (λ m. PlainPair m b) (sym (eqb-true a j p.0)) (subst (λ n. PlainPair j n) (sym (eqb-true b k p.1)) known)
     at false is e = next e
 
-plain_pair : (a b : ℕ) → Plain a → eqb a 39 ≡ false → is_dashes a b ≡ false → is_opening a b ≡ false → PlainPair a b
-plain_pair a b p t d o = record { first = p; apostrophe = t; dashes = d; opening = o }
+plain_pair : (a b : ℕ) → Plain a → eqb a 39 ≡ false → is_dashes a b ≡ false → is_opening a b ≡ false → is_some (single a) ≡ true → PlainPair a b
+plain_pair a b p t d o s = record { first = p; apostrophe = t; dashes = d; opening = o; alone = s }
 
 pub double_plain : (a b : ℕ) (d : Delimiter) → double a b ≡ Some d → PlainPair a b
 double_plain a b d =
-    pair a b 42 42 _ d _ (plain_pair 42 42 (plain 42 refl refl refl refl) refl refl refl)
-    (pair a b 61 62 _ d _ (plain_pair 61 62 (plain 61 refl refl refl refl) refl refl refl)
-    (pair a b 58 61 _ d _ (plain_pair 58 61 (plain 58 refl refl refl refl) refl refl refl)
-    (pair a b 60 61 _ d _ (plain_pair 60 61 (plain 60 refl refl refl refl) refl refl refl)
-    (pair a b 62 61 _ d _ (plain_pair 62 61 (plain 62 refl refl refl refl) refl refl refl)
-    (pair a b 47 61 _ d _ (plain_pair 47 61 (plain 47 refl refl refl refl) refl refl refl)
+    pair a b 42 42 _ d _ (plain_pair 42 42 (plain 42 refl refl refl refl) refl refl refl refl)
+    (pair a b 61 62 _ d _ (plain_pair 61 62 (plain 61 refl refl refl refl) refl refl refl refl)
+    (pair a b 58 61 _ d _ (plain_pair 58 61 (plain 58 refl refl refl refl) refl refl refl refl)
+    (pair a b 60 61 _ d _ (plain_pair 60 61 (plain 60 refl refl refl refl) refl refl refl refl)
+    (pair a b 62 61 _ d _ (plain_pair 62 61 (plain 62 refl refl refl refl) refl refl refl refl)
+    (pair a b 47 61 _ d _ (plain_pair 47 61 (plain 47 refl refl refl refl) refl refl refl refl)
     (λ e. absurd cc))))))

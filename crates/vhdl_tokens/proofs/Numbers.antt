@@ -1,6 +1,6 @@
 -- The number that digits say, digit by digit.
-use Rattle.std.proofs.Common.{◌≡◌, ℕ, ◌+◌, ◌*◌, ◌-◌, ◌<◌, ◌≤◌, ◌^◌, Bool, true, false, cond, eqb, ltb, Option, Some, None, List, [], ◌∷◌, get_or, drop, length, refl, sym, ◌∙◌, ap, subst, arith, add-one, drop-cons}
-use Rattle.std.proofs.lemmas.Bool.{ltb-false, le-ltb, cond-true, cond-false}
+use Rattle.std.proofs.Common.{◌≡◌, ℕ, ◌+◌, ◌*◌, ◌-◌, ◌<◌, ◌≤◌, ◌^◌, Bool, true, false, cond, eqb, Some, None, List, [], ◌∷◌, get_or, drop, length, refl, sym, ◌∙◌, ap, arith, add-one, drop-cons}
+use Rattle.std.proofs.lemmas.Bool.{ltb-false, le-ltb, cond-false}
 use Rattle.vhdl_tokens.specs.Spelling.{number_from, number, small, is_small, with_digit}
 
 -- the digits so far say n, which is small, and rest is what is left of them
@@ -28,13 +28,6 @@ small_none n h = at (is_small n) refl h
 
 pub large_none : (n : ℕ) → 2 ^ 128 ≤ n → small n ≡ None
 large_none n h = cond-false (is_small n) (Some n) None (le-ltb n (2 ^ 128) h)
-
-pub small_some : (n m : ℕ) → small n ≡ Some m → n ≡ m
-small_some n m h = at (is_small n) h
-  where
-    at : (b : Bool) → cond b (Some n) None ≡ Some m → n ≡ m
-    at true e = cc
-    at false e = absurd cc
 
 -- one digit too many
 pub too_large : (digits : List ℕ) (n i : ℕ) → SoFar digits n (drop i digits) → i < length digits → None ≡ small (with_digit n (get_or digits i 0)) → None ≡ small (number digits)

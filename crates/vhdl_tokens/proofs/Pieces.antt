@@ -1,6 +1,6 @@
 -- Texts as pieces: one more piece at the end, and that there is one way to read a text.
-use Rattle.std.proofs.Common.{◌≡◌, ℕ, ◌+◌, ◌-◌, ◌<◌, ◌≤◌, ◌⊎◌, Bool, true, false, cond, eqb, Option, Some, None, List, [], ◌∷◌, ◌++◌, length, take, drop, get_or, Result, Ok, Err, zero, suc, refl, sym, ap, ◌∙◌, subst, inl, inr, arith, append_assoc, length-append, length-drop}
-use Rattle.std.specs.List.{count_by, sum_by}
+use Rattle.std.proofs.Common.{◌≡◌, ℕ, ◌+◌, ◌<◌, ◌≤◌, ◌⊎◌, Bool, false, cond, eqb, Option, Some, None, List, [], ◌∷◌, ◌++◌, length, take, drop, get_or, Result, Ok, Err, zero, suc, refl, sym, ap, ◌∙◌, subst, inl, inr, arith, append_assoc, length-append, length-drop}
+use Rattle.std.specs.List.{count_by}
 use Rattle.std.proofs.Math.Seq.{take-append_seam, drop-append_seam, drop-append-add, take-add}
 use Rattle.std.proofs.lemmas.List.{take-append-drop, length-take}
 use Rattle.std.proofs.lemmas.List.Sums.{sum_by-append}
@@ -12,10 +12,10 @@ use Rattle.vhdl_tokens.specs.declared.token.Kind.TheVariants as kind
 use Rattle.vhdl_tokens.specs.declared.token.Token.{Token}
 use Rattle.vhdl_tokens.specs.declared.token.TokenError.{TokenError}
 use Rattle.vhdl_tokens.specs.declared.token.TokenError.TheVariants as error
-use Rattle.vhdl_tokens.specs.Text.{IsPiece, Piece, Splits, size_of, name_behind, line_at, token_of, tokens_of, Tokens, begins_token, fault_of, IsFault, Refuses}
+use Rattle.vhdl_tokens.specs.Text.{IsPiece, Piece, Splits, size_of, name_behind, line_at, token_of, tokens_of, Tokens, fault_of, IsFault, Refuses}
 use Rattle.vhdl_tokens.specs.Scan.{piece_at}
 use Rattle.vhdl_tokens.proofs.Complete.{complete}
-use Rattle.vhdl_tokens.proofs.Sound.{Stands, sound}
+use Rattle.vhdl_tokens.proofs.Sound.{sound}
 
 -- One more piece at the end.
 pub splits_snoc : (pieces : List Piece) (before after : Bool) (text rest behind : List ℕ) (piece : Piece) → Splits pieces before text after rest → rest ≡ piece.bytes ++ behind → IsPiece piece.kind after piece.bytes behind → Splits (pieces ++ piece ∷ []) before text (name_behind piece.kind after) behind

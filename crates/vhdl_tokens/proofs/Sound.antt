@@ -1,26 +1,24 @@
 -- What is found at the front of a text stands there.
-use Rattle.std.proofs.Common.{◌≡◌, ℕ, ◌+◌, ◌<◌, ◌≤◌, ◌⊎◌, Bool, true, false, ◌==◌, ◌&&◌, ◌||◌, not, cond, eqb, Option, Some, None, List, [], ◌∷◌, ◌++◌, length, take, drop, zero, suc, refl, sym, ap, ◌∙◌, subst, inl, inr, arith, length-append}
+use Rattle.std.proofs.Common.{◌≡◌, ℕ, ◌+◌, ◌≤◌, Bool, true, false, ◌==◌, ◌&&◌, ◌||◌, not, cond, eqb, Option, Some, None, List, [], ◌∷◌, ◌++◌, length, take, drop, zero, suc, refl, sym, ap, ◌∙◌, subst, inl, inr, arith}
 use Rattle.std.proofs.lemmas.List.{take-append-drop}
 use Rattle.std.proofs.lemmas.List.Sums.{prefix_len-le-length}
 use Rattle.std.specs.List.{list_all, flat_map, prefix_len}
 use Rattle.std.specs.Option.{is_some}
 use Rattle.std.specs.Char.{is_ascii_alphabetic, is_ascii_digit}
-use Rattle.std.proofs.lemmas.Bool.{cond-true, cond-false, and_parts, and_from, or_parts, or_from, or_left, eqb-true, not-true}
-use Rattle.std.proofs.lemmas.Option.{same_Some}
+use Rattle.std.proofs.lemmas.Bool.{cond-false, and_parts, and_from, or_from, or_left, eqb-true}
 use Rattle.vhdl_tokens.specs.declared.scan.Found.{Found}
 use Rattle.vhdl_tokens.specs.declared.bytes.Class.{Class}
-use Rattle.vhdl_tokens.specs.declared.bytes.Class.TheVariants.{Name, Decimal}
+use Rattle.vhdl_tokens.specs.declared.bytes.Class.TheVariants.{Name}
 use Rattle.vhdl_tokens.specs.declared.token.Kind.{Kind}
 use Rattle.vhdl_tokens.specs.declared.token.Kind.TheVariants as kind
 use Rattle.vhdl_tokens.specs.declared.token.Delimiter.{Delimiter}
-use Rattle.vhdl_tokens.specs.declared.token.Delimiter.TheVariants as delimiter
 use Rattle.vhdl_tokens.specs.declared.reserved.Reserved.{Reserved}
-use Rattle.vhdl_tokens.specs.Bytes.{is_word_byte, is_graphic, is_separator, belongs, base_of}
+use Rattle.vhdl_tokens.specs.Bytes.{is_word_byte, is_graphic, is_separator, base_of}
 use Rattle.vhdl_tokens.specs.Reserved.{reserved_word}
 use Rattle.vhdl_tokens.specs.Delimiters.{single, double, goes_on, is_dashes, is_opening, is_closing}
-use Rattle.vhdl_tokens.specs.Spelling.{begins, is_spaced, is_identifier, is_integer, is_small, number, IsChar, IsText, IsBits, IsSeparator, IsLineComment, IsBlockComment, doubled, are_digits, bits_at as bits_of_digit, is_on_line, is_closed}
-use Rattle.vhdl_tokens.specs.Text.{bits_base, IsWord, IsDelimiter, IsPiece}
-use Rattle.vhdl_tokens.specs.Scan.{blank, token, run_len, kind_of_word, name_in, name_at, integer_in, integer_at, bits_in, bits_at, word_by, word_at, text_end, text_to, block_end, block_to, char_at, tick_at, single_at, double_at, mark_at, piece_at}
+use Rattle.vhdl_tokens.specs.Spelling.{begins, is_spaced, is_integer, doubled, are_digits, bits_at as bits_of_digit, is_on_line, is_closed}
+use Rattle.vhdl_tokens.specs.Text.{bits_base, IsWord, IsPiece}
+use Rattle.vhdl_tokens.specs.Scan.{blank, token, run_len, kind_of_word, name_at, integer_at, bits_at, word_by, word_at, text_end, text_to, block_end, block_to, char_at, tick_at, single_at, double_at, mark_at, piece_at}
 use Rattle.vhdl_tokens.proofs.Classes.{prefix_stops, prefix_all}
 
 -- the piece that was found stands at the front of the text
@@ -52,7 +50,7 @@ first_of_front : (class : Class) (p : ℕ → Bool) (n : ℕ) (b : ℕ) (more : 
 first_of_front class p zero b more h = absurd cc
 first_of_front class p (suc n) b more h = refl
 
-word_piece : (a : Bool) (bytes behind : List ℕ) (r : Option Reserved) → reserved_word bytes ≡ r → IsWord bytes behind → IsPiece (Some (kind_of_word r)) a bytes behind
+pub word_piece : (a : Bool) (bytes behind : List ℕ) (r : Option Reserved) → reserved_word bytes ≡ r → IsWord bytes behind → IsPiece (Some (kind_of_word r)) a bytes behind
 word_piece a bytes behind None is word = (word, is)
 word_piece a bytes behind (Some w) is word = (word, is)
 

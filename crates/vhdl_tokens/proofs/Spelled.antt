@@ -1,9 +1,9 @@
 -- Each token of a text is spelled as its kind says, and each text has a reading.
-use Rattle.std.proofs.Common.{◌≡◌, ℕ, ◌+◌, ◌-◌, ◌<◌, ◌≤◌, ◌⊎◌, Bool, true, false, eqb, Option, Some, None, List, [], ◌∷◌, ◌++◌, length, take, drop, Result, Ok, Err, zero, suc, refl, sym, ap, ◌∙◌, subst, inl, inr, arith, length-append, length-drop}
+use Rattle.std.proofs.Common.{◌≡◌, ℕ, ◌+◌, ◌-◌, ◌<◌, ◌≤◌, ◌⊎◌, Bool, false, eqb, Option, Some, None, List, [], ◌∷◌, ◌++◌, length, take, drop, Result, Ok, Err, zero, suc, refl, sym, ap, ◌∙◌, subst, inl, inr, arith, length-append, length-drop}
 use Rattle.std.specs.Result.{IfOk}
 use Rattle.std.specs.List.{All, AllByRecursion, count_by}
 use Rattle.std.proofs.lemmas.List.Elements.{All-from_recursion}
-use Rattle.std.proofs.Math.Seq.{take-append_seam, drop-append_seam, drop-append-add}
+use Rattle.std.proofs.Math.Seq.{take-append_seam, drop-append_seam}
 use Rattle.std.proofs.Math.Seq.{drop-nil}
 use Rattle.vhdl_tokens.specs.declared.scan.Found.{Found}
 use Rattle.vhdl_tokens.specs.declared.token.Kind.{Kind}
@@ -12,9 +12,9 @@ use Rattle.vhdl_tokens.specs.declared.token.Delimiter.{Delimiter}
 use Rattle.vhdl_tokens.specs.declared.token.Token.{Token}
 use Rattle.vhdl_tokens.specs.declared.token.TokenError.{TokenError}
 use Rattle.vhdl_tokens.specs.Text.{IsPiece, IsDelimiter, Piece, Splits, name_behind, line_at, token_of, tokens_of, Tokens, IsFault, fault_of}
-use Rattle.vhdl_tokens.specs.Meaning.{span, SpellsDelimiter, IsSpelled, IsTokenOf, StandInOrder}
+use Rattle.vhdl_tokens.specs.Meaning.{SpellsDelimiter, IsSpelled, IsTokenOf, StandInOrder}
 use Rattle.vhdl_tokens.specs.Scan.{piece_at}
-use Rattle.vhdl_tokens.proofs.Pieces.{SoFar, begin, goes_on, ends, faults, found_within, rest_is, never_empty}
+use Rattle.vhdl_tokens.proofs.Pieces.{SoFar, begin, goes_on, ends, faults, found_within, never_empty}
 
 delimiter_spelled : (d : Delimiter) (a : Bool) (bytes behind : List ℕ) → IsDelimiter d a bytes behind → SpellsDelimiter d bytes
 delimiter_spelled d a [] behind is = is

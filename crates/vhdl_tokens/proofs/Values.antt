@@ -1,5 +1,5 @@
 -- The values that literals spell.
-use Rattle.std.proofs.Common.{◌≡◌, ℕ, ◌+◌, ◌<◌, ◌≤◌, ◌⊎◌, Bool, true, false, ◌==◌, ◌&&◌, cond, eqb, Option, Some, None, Result, Ok, Err, List, [], ◌∷◌, ◌++◌, length, take, drop, get_or, zero, suc, refl, sym, ap, ◌∙◌, subst, inl, inr, arith, append_assoc, length-append}
+use Rattle.std.proofs.Common.{◌≡◌, ℕ, ◌<◌, ◌≤◌, Bool, true, false, ◌&&◌, cond, eqb, Option, Some, None, Result, Ok, Err, List, [], ◌∷◌, ◌++◌, length, take, drop, get_or, refl, sym, ap, ◌∙◌, subst, arith, append_assoc, length-append}
 use Rattle.std.proofs.Math.Seq.{take-append_seam}
 use Rattle.std.proofs.lemmas.List.{drop_at, take-append-drop}
 use Rattle.std.specs.List.{list_all, flat_map, prefix_len}
@@ -11,7 +11,7 @@ use Rattle.vhdl_tokens.specs.declared.bytes.Class.{Class}
 use Rattle.vhdl_tokens.specs.declared.scan.TextStep.{TextStep}
 use Rattle.vhdl_tokens.specs.declared.scan.TextStep.TheVariants.{Takes, Ends, Breaks}
 use Rattle.vhdl_tokens.specs.Bytes.{is_word_byte, is_graphic, base_of}
-use Rattle.vhdl_tokens.specs.Spelling.{begins, IsChar, IsText, IsBits, doubled, are_digits, bits_at}
+use Rattle.vhdl_tokens.specs.Spelling.{IsText, IsBits, doubled, are_digits, bits_at}
 use Rattle.vhdl_tokens.specs.Text.{bits_base}
 use Rattle.vhdl_tokens.specs.Scan.{text_step}
 use Rattle.vhdl_tokens.specs.Meaning.{Means}
@@ -27,10 +27,6 @@ Steps Breaks front rest = value_from front rest ≡ None
 steps_none : (front : List ℕ) → value_from front [] ≡ None
 unfolding value_from
 steps_none front = refl
-
-last_only : (front : List ℕ) (a : ℕ) → eqb a 34 ≡ false → value_from front (a ∷ []) ≡ None
-unfolding value_from
-last_only front a is = rw is refl
 
 steps_one : (front : List ℕ) (a : ℕ) (q g : Bool) → eqb a 34 ≡ q → is_graphic a ≡ g → Steps (cond q Ends (cond g (Takes 1) Breaks)) front (a ∷ [])
 unfolding value_from

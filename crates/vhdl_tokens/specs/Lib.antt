@@ -1,6 +1,7 @@
 pub mod Bytes
 pub mod Delimiters
 pub mod Meaning
+pub mod Message
 pub mod Reserved
 pub mod Scan
 pub mod Spelling

@@ -1,19 +1,13 @@
 -- What the bytes of a token say.
-use Rattle.std.specs.Prelude.{◌≡◌, ℕ, ◌+◌, ◌-◌, ◌<◌, ◌≤◌, Bool, true, false, ◌==◌, ◌&&◌, Option, Some, None, List, [], ◌∷◌, ◌++◌, length, take, drop, map, if◌then◌else◌}
-use Rattle.std.specs.List.{flat_map, prefix_len}
+use Rattle.std.specs.Prelude.{◌≡◌, ℕ, ◌-◌, ◌<◌, ◌≤◌, Bool, true, Option, Some, None, List, [], ◌∷◌, length, take, drop, map, if◌then◌else◌}
 use Rattle.std.specs.Char.{to_ascii_lowercase}
-use Rattle.vhdl_tokens.specs.declared.bytes.Class.{Class}
 use Rattle.vhdl_tokens.specs.declared.token.Kind.{Kind}
 use Rattle.vhdl_tokens.specs.declared.token.Kind.TheVariants as kind
 use Rattle.vhdl_tokens.specs.declared.token.Token.{Token}
 use Rattle.vhdl_tokens.specs.declared.token.Delimiter.{Delimiter}
-use Rattle.vhdl_tokens.specs.declared.scan.TextStep.{TextStep}
-use Rattle.vhdl_tokens.specs.declared.scan.TextStep.TheVariants.{Takes, Ends, Breaks}
-use Rattle.vhdl_tokens.specs.Bytes.{is_word_byte, is_graphic}
 use Rattle.vhdl_tokens.specs.Reserved.{reserved_word}
 use Rattle.vhdl_tokens.specs.Delimiters.{single, double}
-use Rattle.vhdl_tokens.specs.Spelling.{begins, is_identifier, is_integer, number, IsChar, IsText, IsBits, are_digits, bits_at}
-use Rattle.vhdl_tokens.specs.Text.{bits_base}
+use Rattle.vhdl_tokens.specs.Spelling.{is_identifier, is_integer, number, IsChar, IsText, IsBits}
 
 -- the bytes of a token
 abbrev pub span : List ℕ → Token → List ℕ

@@ -1,10 +1,10 @@
 -- What stands at the front of a text, by its bytes from the left. That it is what the definition of a
 -- text says (specs/Text.antt) is proved in proofs/.
-use Rattle.std.specs.Prelude.{ℕ, ◌+◌, Bool, ◌==◌, ◌||◌, ◌&&◌, not, Option, Some, None, List, [], ◌∷◌, length, take, drop, if◌then◌else◌}
+use Rattle.std.specs.Prelude.{ℕ, ◌+◌, Bool, ◌==◌, ◌&&◌, Option, Some, None, List, [], ◌∷◌, take, drop, if◌then◌else◌}
 use Rattle.std.specs.List.{prefix_len}
 use Rattle.std.specs.Char.{is_ascii_alphabetic, is_ascii_digit}
 use Rattle.vhdl_tokens.specs.declared.bytes.Class.{Class}
-use Rattle.vhdl_tokens.specs.declared.bytes.Class.TheVariants.{Name, Decimal}
+use Rattle.vhdl_tokens.specs.declared.bytes.Class.TheVariants.{Name}
 use Rattle.vhdl_tokens.specs.declared.token.Kind.{Kind}
 use Rattle.vhdl_tokens.specs.declared.token.Kind.TheVariants as kind
 use Rattle.vhdl_tokens.specs.declared.token.Delimiter.{Delimiter}
@@ -13,7 +13,7 @@ use Rattle.vhdl_tokens.specs.declared.reserved.Reserved.{Reserved}
 use Rattle.vhdl_tokens.specs.declared.scan.Found.{Found}
 use Rattle.vhdl_tokens.specs.declared.scan.TextStep.{TextStep}
 use Rattle.vhdl_tokens.specs.declared.scan.TextStep.TheVariants.{Takes, Ends, Breaks}
-use Rattle.vhdl_tokens.specs.Bytes.{is_word_byte, is_graphic, is_separator, base_of}
+use Rattle.vhdl_tokens.specs.Bytes.{is_word_byte, is_graphic, is_separator}
 use Rattle.vhdl_tokens.specs.Reserved.{reserved_word}
 use Rattle.vhdl_tokens.specs.Delimiters.{single, double, is_dashes, is_opening, is_closing}
 use Rattle.vhdl_tokens.specs.Spelling.{begins, is_spaced, is_integer, are_digits, is_on_line}

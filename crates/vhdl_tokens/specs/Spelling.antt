@@ -1,10 +1,10 @@
 -- How separators, comments and tokens are spelled (IEEE Std 1076-2008, 15.3 to 15.9).
-use Rattle.std.specs.Prelude.{◌≡◌, ℕ, ◌+◌, ◌*◌, ◌-◌, ◌/◌, ◌%◌, ◌^◌, Bool, true, false, ◌==◌, ◌||◌, ◌&&◌, not, Option, Some, None, List, [], ◌∷◌, ◌++◌, is_some, if◌then◌else◌, nat_lt, filter}
+use Rattle.std.specs.Prelude.{◌≡◌, ℕ, ◌+◌, ◌*◌, ◌-◌, ◌/◌, ◌%◌, ◌^◌, Bool, true, false, ◌==◌, ◌&&◌, not, Option, Some, None, List, [], ◌∷◌, ◌++◌, if◌then◌else◌, nat_lt}
 use Rattle.std.specs.List.{list_all, flat_map}
-use Rattle.std.specs.Char.{is_ascii_alphabetic, is_ascii_digit}
+use Rattle.std.specs.Char.{is_ascii_alphabetic}
 use Rattle.vhdl_tokens.specs.declared.bytes.Class.{Class}
-use Rattle.vhdl_tokens.specs.declared.bytes.Class.TheVariants.{Name, Decimal, Binary, Octal, Hexadecimal}
-use Rattle.vhdl_tokens.specs.Bytes.{is_word_byte, is_graphic, is_separator, belongs, base_of}
+use Rattle.vhdl_tokens.specs.declared.bytes.Class.TheVariants.{Name, Decimal, Binary, Octal}
+use Rattle.vhdl_tokens.specs.Bytes.{is_graphic, is_separator, belongs, base_of}
 use Rattle.vhdl_tokens.specs.Delimiters.{is_closing}
 
 -- there is a first byte, and it passes a test

@@ -1,5 +1,5 @@
 -- A text as its tokens: the text is, in order, separators, comments and the spans of the tokens.
-use Rattle.std.specs.Prelude.{◌≡◌, ℕ, ◌+◌, ◌^◌, Bool, true, false, ◌==◌, ◌||◌, ◌&&◌, not, Option, Some, None, List, [], ◌∷◌, ◌++◌, ◌⊎◌, is_some, length, take, drop, count_by, Result, Ok, Err, if◌then◌else◌}
+use Rattle.std.specs.Prelude.{◌≡◌, ℕ, ◌+◌, Bool, true, false, ◌==◌, ◌||◌, not, Option, Some, None, List, [], ◌∷◌, ◌++◌, ◌⊎◌, is_some, length, take, count_by, if◌then◌else◌}
 use Rattle.std.specs.Char.{is_ascii_alphabetic, is_ascii_digit}
 use Rattle.vhdl_tokens.specs.declared.token.Kind.{Kind}
 use Rattle.vhdl_tokens.specs.declared.token.Kind.TheVariants as kind
@@ -8,7 +8,6 @@ use Rattle.vhdl_tokens.specs.declared.token.TokenError.{TokenError}
 use Rattle.vhdl_tokens.specs.declared.token.TokenError.TheVariants as error
 use Rattle.vhdl_tokens.specs.declared.token.Delimiter.{Delimiter}
 use Rattle.vhdl_tokens.specs.declared.token.Delimiter.TheVariants as delimiter
-use Rattle.vhdl_tokens.specs.declared.reserved.Reserved.{Reserved}
 use Rattle.vhdl_tokens.specs.declared.reserved.Reserved.TheVariants as reserved
 use Rattle.vhdl_tokens.specs.declared.bytes.Class.{Class}
 use Rattle.vhdl_tokens.specs.Bytes.{is_word_byte, base_of}
@@ -99,7 +98,15 @@ pub record Tokens (text : List ℕ) (tokens : List Token) : Type 0 where
   pub whole : Splits pieces false text after []
   pub tokens_are : tokens ≡ tokens_of text 0 pieces
 
--- some token begins with this byte
+-- A token begins with this byte: in some text one does.
+pub record BeginsToken (byte : ℕ) : Type 0 where
+  pub which : Kind
+  pub after_name : Bool
+  pub more : List ℕ
+  pub behind : List ℕ
+  pub piece : IsPiece (Some which) after_name (byte ∷ more) behind
+
+-- the test of that: a letter, a digit, a quotation mark or the first byte of a delimiter
 abbrev pub begins_token : ℕ → Bool
 begins_token b = (is_ascii_alphabetic b || is_ascii_digit b) || (b == 34 || is_some (single b))
 

@@ -1,6 +1,6 @@
 -- How the value of a literal is found, by its bytes from the left. That it is what the definitions say
 -- (specs/Spelling.antt) is proved in proofs/.
-use Rattle.std.specs.Prelude.{ℕ, Bool, true, false, ◌==◌, ◌&&◌, Option, Some, None, List, [], ◌∷◌, ◌++◌, take, drop, if◌then◌else◌}
+use Rattle.std.specs.Prelude.{ℕ, Bool, false, ◌==◌, ◌&&◌, Option, Some, None, List, [], ◌∷◌, ◌++◌, take, drop, if◌then◌else◌}
 use Rattle.std.specs.List.{flat_map, prefix_len}
 use Rattle.vhdl_tokens.specs.declared.bytes.Class.{Class}
 use Rattle.vhdl_tokens.specs.Bytes.{is_word_byte, is_graphic}

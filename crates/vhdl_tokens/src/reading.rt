@@ -1,9 +1,9 @@
 //! A text as its tokens.
 
-ghost use Rattle.std.specs.Prelude.{◌≡◌, ℕ, ◌+◌, ◌≤◌, ◌<◌, ◌^◌, ◌==◌, ◌++◌, ◌⊎◌, List, length, slice_index, count_by, All, IfOk, IfErr, OnOk, IsOkAnd, IsErrOf};
+ghost use Rattle.std.specs.Prelude.{◌≡◌, ℕ, ◌+◌, ◌≤◌, ◌<◌, ◌^◌, ◌==◌, ◌++◌, ◌⊎◌, List, length, slice_index, count_by, All, IsTrue, ◌↔◌, IfOk, IfErr, OnOk, IsOkAnd, IsErrOf};
 ghost use Rattle.vhdl_tokens.specs.declared.token.Token.{Token};
 ghost use Rattle.vhdl_tokens.specs.declared.token.TokenError.{TokenError};
-ghost use Rattle.vhdl_tokens.specs.Text.{Tokens, IsFault, Refuses, is_name_end, name_behind, token_of, begins_token, fault_of};
+ghost use Rattle.vhdl_tokens.specs.Text.{Tokens, IsFault, Refuses, is_name_end, name_behind, token_of, begins_token, BeginsToken, fault_of};
 ghost use Rattle.vhdl_tokens.specs.Meaning.{IsTokenOf, StandInOrder};
 
 use crate::scan::{piece_at, single};
@@ -148,4 +148,7 @@ pub fn one_reading()
         Tokens text list → IsFault text fault → ⊥ }
     ensures one_fault { (text : List ℕ) (fault other : TokenError) →
         IsFault text fault → IsFault text other → fault ≡ other }
+
+    // A bad byte is one with which no token begins, in any text.
+    ensures first_bytes { (byte : ℕ) → IsTrue (begins_token byte) ↔ BeginsToken byte }
 {}

@@ -104,6 +104,11 @@ pub enum TokenError {
 }
 
 impl fmt::Display for TokenError {
+    ghost use Rattle.std.specs.Prelude.{Some};
+    ghost use Rattle.vhdl_tokens.specs.Message.{message};
+
+    ghost output = { λ error. Some (message error) };
+
     fn fmt<W: fmt::Write>(&self, f: &mut fmt::Formatter<W>) -> fmt::Result {
         match self {
             TokenError::BadByte { place } => write!(f, "no token begins with the byte at {place}"),

@@ -1,4 +1,4 @@
-use Rattle.std.proofs.Common.{◌≡◌, ◌∙◌, sym, arith}
+use Rattle.std.proofs.Common.{◌∙◌, sym, arith}
 use Rattle.vhdl_tokens.proofs.Values.{advanced, taken, broken, whole_value, no_value}
 use Rattle.vhdl_tokens.proofs.meaning.value_of.Goals as goal
 

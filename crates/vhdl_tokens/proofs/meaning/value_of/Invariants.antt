@@ -1,4 +1,4 @@
-use Rattle.std.proofs.Common.{◌≡◌, List, [], length}
+use Rattle.std.proofs.Common.{◌≡◌, [], length}
 use Rattle.vhdl_tokens.specs.Values.{value_from}
 use Rattle.vhdl_tokens.proofs.meaning.value_of.Given as goal
 

@@ -1,3 +1,4 @@
+use Rattle.vhdl_tokens.proofs.FirstBytes.{first_bytes}
 use Rattle.vhdl_tokens.proofs.Pieces.{one_list, list_or_fault, one_fault}
 use Rattle.vhdl_tokens.proofs.Spelled.{some_reading}
 use Rattle.vhdl_tokens.proofs.reading.one_reading.Goals as goal
@@ -13,3 +14,6 @@ returns-clause-one_fault c = one_fault
 
 pub returns-clause-some : goal.returns-clause-some
 returns-clause-some c = some_reading
+
+pub returns-clause-first_bytes : goal.returns-clause-first_bytes
+returns-clause-first_bytes c = first_bytes

@@ -1,4 +1,4 @@
-use Rattle.std.proofs.Common.{◌≡◌, ◌<◌, ◌∙◌, length, sym, subst, refl, arith, rules}
+use Rattle.std.proofs.Common.{◌<◌, length, sym, subst, arith, rules}
 use Rattle.vhdl_tokens.specs.Text.{Refuses}
 use Rattle.vhdl_tokens.proofs.Pieces.{found_within, faults, refuses, turns}
 use Rattle.vhdl_tokens.proofs.reading.read.Goals as goal

@@ -1,4 +1,4 @@
-use Rattle.std.proofs.Common.{◌≡◌, ◌+◌, ◌≤◌, length}
+use Rattle.std.proofs.Common.{◌+◌, ◌≤◌, length}
 use Rattle.vhdl_tokens.proofs.Pieces.{SoFar}
 use Rattle.vhdl_tokens.proofs.reading.read.Given as goal
 

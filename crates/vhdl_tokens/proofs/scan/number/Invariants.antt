@@ -1,5 +1,4 @@
-use Rattle.std.proofs.Common.{◌≡◌, Some, drop}
-use Rattle.vhdl_tokens.specs.Spelling.{number_from, number, small}
+use Rattle.std.proofs.Common.{drop}
 use Rattle.vhdl_tokens.proofs.Numbers.{SoFar}
 use Rattle.vhdl_tokens.proofs.scan.number.Given as goal
 

@@ -1,4 +1,4 @@
-use Rattle.std.proofs.Common.{◌≡◌, ◌∙◌, sym, refl, arith}
+use Rattle.std.proofs.Common.{◌∙◌, sym, arith}
 use Rattle.vhdl_tokens.proofs.Lengths.{advanced, ended, taken, broken}
 use Rattle.vhdl_tokens.proofs.scan.text_end.Goals as goal
 

@@ -1,4 +1,4 @@
-use Rattle.std.proofs.Common.{◌≡◌, ◌+◌, ◌≤◌, length}
+use Rattle.std.proofs.Common.{◌+◌, length}
 use Rattle.vhdl_tokens.specs.Scan.{text_end}
 use Rattle.vhdl_tokens.proofs.Lengths.{SoFar}
 use Rattle.vhdl_tokens.proofs.scan.text_end.Given as goal

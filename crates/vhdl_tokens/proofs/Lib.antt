@@ -1,0 +1,10 @@
+pub mod Classes
+pub mod Complete
+pub mod FirstBytes
+pub mod Lengths
+pub mod Marks
+pub mod Numbers
+pub mod Pieces
+pub mod Sound
+pub mod Spelled
+pub mod Values

@@ -1,0 +1,5 @@
+pub mod Types
+pub mod Values
+pub mod Formats
+pub mod Reading
+pub mod Printing

@@ -1,0 +1,128 @@
+use Rattle.std.specs.Prelude.{◌≡◌, ℕ, suc, zero, ◌+◌, ◌-◌, ◌*◌, ◌/◌, ◌%◌, ◌<◌, max, Bool, true, false, not, ◌&&◌, ◌||◌, ◌==◌, nat_le, List, [], ◌∷◌, ◌++◌, map, length, take, drop, replicate, position, ℤ, pos, neg_ℤ, int_le, Option, Some, None, option_map, option_and_then, Result, Ok, Err, if◌then◌else◌, codes, bytes_eq, slice_get}
+use Rattle.std.specs.Str.{all_ascii_digits}
+use Rattle.std.specs.Str.Parse.{digits_value}
+use Rattle.vhpi_values.specs.declared.types.Base.{Base}
+use Rattle.vhpi_values.specs.declared.formats.Format.{Format}
+use Rattle.vhpi_values.specs.declared.formats.Format.TheVariants as format
+use Rattle.vhpi_values.specs.declared.formats.Formatted.{Formatted}
+use Rattle.vhpi_values.specs.declared.formats.Formatted.TheVariants as formatted
+use Rattle.vhpi_values.specs.Types.{Subtype, element_count, characters_of}
+use Rattle.vhpi_values.specs.Values.{lowest, highest}
+use Rattle.vhpi_values.specs.Formats.{filling}
+
+-- the format that a content is of
+abbrev pub format_of : Formatted → Format
+format_of (formatted.BinStr _) = format.BinStr
+format_of (formatted.HexStr _) = format.HexStr
+format_of (formatted.DecStr _) = format.DecStr
+format_of (formatted.Enum _) = format.Enum
+format_of (formatted.Int _) = format.Int
+format_of (formatted.Logic _) = format.Logic
+format_of (formatted.Str _) = format.Str
+format_of (formatted.Char _) = format.Char
+format_of (formatted.Time _) = format.Time
+format_of (formatted.EnumVec _) = format.EnumVec
+format_of (formatted.IntVec _) = format.IntVec
+format_of (formatted.LogicVec _) = format.LogicVec
+
+-- A content has members: characters, digits or numbers. A member stands for elements of the value, or doesn't fit.
+
+-- a number stands for itself where it lies in the scalar subtype
+abbrev pub number : Subtype → ℤ → Option ℤ
+number ty n = if int_le (lowest ty) n && int_le n (highest ty) then Some n else None
+
+-- a literal character stands for its position
+abbrev pub character : Subtype → ℕ → Option ℤ
+character ty c = option_and_then (λ n. number ty (pos n)) (position (λ literal. literal == c) (characters_of ty.base))
+
+-- 1 to 20 decimal digits
+abbrev pub natural_number : List ℕ → Option ℕ
+natural_number digits =
+    if nat_le 1 (length digits) && nat_le (length digits) 20 && all_ascii_digits digits then Some (digits_value 10 digits)
+    else None
+
+-- the same after an optional '-'
+abbrev pub decimal_number : List ℕ → Option ℤ
+decimal_number [] = None
+decimal_number (c ∷ cs) =
+    if c == 45 then option_map (λ n. neg_ℤ (pos n)) (natural_number cs)
+    else option_map pos (natural_number (c ∷ cs))
+
+-- a decimal text stands for its number
+abbrev pub decimal_text : Subtype → List ℕ → Option ℤ
+decimal_text ty text = option_and_then (number ty) (decimal_number text)
+
+-- the bits of a number below 16, from the left
+abbrev pub four_bits : ℕ → List ℕ
+four_bits n = (48 + n / 8) ∷ (48 + n / 4 % 2) ∷ (48 + n / 2 % 2) ∷ (48 + n % 2) ∷ []
+
+-- the group of four characters of a digit: upper case alone, and 'X' and 'Z' are four of their kind
+abbrev pub group_of : ℕ → Option (List ℕ)
+group_of digit =
+    if (digit == 88) || (digit == 90) then Some (replicate 4 digit)
+    else option_map four_bits (position (λ d. d == digit) (codes "0123456789ABCDEF"))
+
+-- all characters of a list, or none where one doesn't fit
+abbrev pub characters : Subtype → List ℕ → Option (List ℤ)
+characters ty [] = Some []
+characters ty (c ∷ cs) = option_and_then (λ n. option_map (λ ns. n ∷ ns) (characters ty cs)) (character ty c)
+
+-- a digit stands for its group, which has '0' in each of its filled places
+abbrev pub digit : Subtype → ℕ → ℕ → Option (List ℤ)
+digit ty filled d = option_and_then (λ group. if bytes_eq (take filled group) (replicate filled 48) then characters ty (drop filled group) else None) (group_of d)
+
+-- the leftmost digit alone has filled places
+abbrev pub digits : Subtype → List ℕ → List (Option (List ℤ))
+digits ty [] = []
+digits ty (d ∷ ds) = digit ty (filling (element_count ty)) d ∷ map (digit ty 0) ds
+
+-- one element
+abbrev pub single : Option ℤ → Option (List ℤ)
+single n = option_map (λ m. m ∷ []) n
+
+-- what each member of a content stands for
+abbrev pub members : Subtype → Formatted → List (Option (List ℤ))
+members ty (formatted.BinStr text) = map (λ c. single (character ty c)) text
+members ty (formatted.HexStr text) = digits ty text
+members ty (formatted.DecStr text) = single (decimal_text ty text) ∷ []
+members ty (formatted.Enum n) = single (number ty n) ∷ []
+members ty (formatted.Int n) = single (number ty n) ∷ []
+members ty (formatted.Logic n) = single (number ty n) ∷ []
+members ty (formatted.Str text) = map (λ c. single (number ty (pos c))) text
+members ty (formatted.Char n) = single (number ty n) ∷ []
+members ty (formatted.Time n) = single (number ty n) ∷ []
+members ty (formatted.EnumVec ns) = map (λ n. single (number ty n)) ns
+members ty (formatted.IntVec ns) = map (λ n. single (number ty n)) ns
+members ty (formatted.LogicVec ns) = map (λ n. single (number ty n)) ns
+
+-- how many members the type asks for: a digit stands for four elements, all else for one
+abbrev pub wanted : Subtype → Formatted → ℕ
+wanted ty (formatted.HexStr _) = (element_count ty + 3) / 4
+wanted ty _ = element_count ty
+
+-- elements before those that are read after them
+abbrev pub behind : List ℤ → Result (List ℤ) ℕ → Result (List ℤ) ℕ
+behind elements (Ok more) = Ok (elements ++ more)
+behind elements (Err place) = Err (place + 1)
+
+-- so many members one after another, or the place of the first that doesn't fit, is missing or is one too many
+abbrev pub gathered : ℕ → List (Option (List ℤ)) → Result (List ℤ) ℕ
+gathered zero [] = Ok []
+gathered zero (_ ∷ _) = Err 0
+gathered (suc n) [] = Err 0
+gathered (suc n) (None ∷ _) = Err 0
+gathered (suc n) (Some elements ∷ more) = behind elements (gathered n more)
+
+-- the value that a content stands for, or the place where it doesn't
+abbrev pub reading : Subtype → Formatted → Result (List ℤ) ℕ
+reading ty from = gathered (wanted ty from) (members ty from)
+
+-- there is a member at the place, it is asked for, and it fits
+abbrev pub FitsAt : ℕ → List (Option (List ℤ)) → ℕ → Type 0
+FitsAt n ms place = (elements : List ℤ) × (place < n) × (slice_get ms place ≡ Some (Some elements))
+
+-- the first place at which a content and its type don't agree
+pub record IsFirstMisfit (n : ℕ) (ms : List (Option (List ℤ))) (place : ℕ) : Type 0 where
+  pub before : (k : ℕ) → k < place → FitsAt n ms k
+  pub here : FitsAt n ms place → ⊥
+  pub is_place : place < max n (length ms)

@@ -1,0 +1,14 @@
+//! VHDL types and their values.
+#![tactic(auto)]
+
+mod formats;
+mod sequence;
+mod types;
+mod values;
+mod writing;
+
+pub use formats::{Format, FormatError, Formatted, ValueError};
+pub use sequence::Sequence;
+pub use types::{Base, IndexRange, Literal, Ty};
+pub use values::{NoMemory, Val, default_of, fits};
+pub use writing::goes_with;

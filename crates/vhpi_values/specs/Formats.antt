@@ -1,7 +1,6 @@
-use Rattle.std.specs.Prelude.{◌≡◌, ℕ, ◌+◌, ◌-◌, ◌%◌, Bool, true, false, not, ◌&&◌, ◌||◌, ◌==◌, List, [], ◌∷◌, ◌++◌, map, length, replicate, slice_index, ℤ, pos, unsigned_abs, if◌then◌else◌}
+use Rattle.std.specs.Prelude.{ℕ, ◌+◌, ◌-◌, ◌*◌, ◌%◌, Bool, true, false, not, ◌&&◌, ◌||◌, ◌==◌, List, [], ◌∷◌, ◌++◌, map, length, fold, replicate, slice_index, ℤ, pos, unsigned_abs, if◌then◌else◌}
 use Rattle.std.specs.List.{list_all}
 use Rattle.std.specs.Fmt.{signed_decimal, digit_glyph}
-use Rattle.std.specs.Str.Parse.{digits_value}
 use Rattle.vhpi_values.specs.declared.types.Base.{Base}
 use Rattle.vhpi_values.specs.declared.types.Base.TheVariants as base
 use Rattle.vhpi_values.specs.declared.formats.Format.{Format}
@@ -55,10 +54,14 @@ filled text = replicate (filling (length text)) 48 ++ text
 abbrev pub is_binary : ℕ → Bool
 is_binary c = (c == 48) || (c == 49)
 
+-- the number that a group of '0' and '1' spells
+abbrev pub group_value : List ℕ → ℕ
+group_value group = fold (λ n c. 2 * n + (c - 48)) 0 group
+
 -- the digit of a group: 0 to F where it is of '0' and '1' alone, 'Z' where it is of 'Z' alone, else 'X'
 abbrev pub hex_digit : List ℕ → ℕ
 hex_digit group =
-    if list_all is_binary group then digit_glyph true (digits_value 2 group)
+    if list_all is_binary group then digit_glyph true (group_value group)
     else (if list_all (λ c. c == 90) group then 90 else 88)
 
 -- the digits of groups of four

@@ -11,4 +11,4 @@ pub use formats::{Format, FormatError, Formatted, ValueError};
 pub use sequence::Sequence;
 pub use types::{Base, IndexRange, Literal, Ty};
 pub use values::{NoMemory, Val, default_of, fits};
-pub use writing::goes_with;
+pub use writing::{format_value, goes_with};

@@ -53,6 +53,31 @@ pub enum Formatted {
     LogicVec(Sequence<i64>),
 }
 
+impl Formatted {
+    ghost use Rattle.std.specs.Prelude.{◌≡◌};
+    ghost use Rattle.vhpi_values.specs.Reading.{format_of};
+
+    /// The format that the content is of.
+    pub fn format(&self) -> Format
+        ensures { result ≡ format_of self.now }
+    {
+        match self {
+            Formatted::BinStr(_) => Format::BinStr,
+            Formatted::HexStr(_) => Format::HexStr,
+            Formatted::DecStr(_) => Format::DecStr,
+            Formatted::Enum(_) => Format::Enum,
+            Formatted::Int(_) => Format::Int,
+            Formatted::Logic(_) => Format::Logic,
+            Formatted::Str(_) => Format::Str,
+            Formatted::Char(_) => Format::Char,
+            Formatted::Time(_) => Format::Time,
+            Formatted::EnumVec(_) => Format::EnumVec,
+            Formatted::IntVec(_) => Format::IntVec,
+            Formatted::LogicVec(_) => Format::LogicVec,
+        }
+    }
+}
+
 /// Why a value isn't formatted.
 #[derive(Clone, Copy, Debug, PartialEq, Eq)]
 pub enum FormatError {

@@ -2,12 +2,14 @@
 #![tactic(auto)]
 
 mod formats;
+mod reading;
 mod sequence;
 mod types;
 mod values;
 mod writing;
 
 pub use formats::{Format, FormatError, Formatted, ValueError};
+pub use reading::read_value;
 pub use sequence::Sequence;
 pub use types::{Base, IndexRange, Literal, Ty};
 pub use values::{NoMemory, Val, default_of, fits};

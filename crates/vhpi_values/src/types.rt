@@ -1,4 +1,4 @@
-ghost use Rattle.std.specs.Prelude.{◌≡◌, ◌↔◌, ◌+ℤ◌, ◌-ℤ◌, pos, IsTrue};
+ghost use Rattle.std.specs.Prelude.{◌≡◌, ◌↔◌, ◌^◌, ◌+ℤ◌, ◌-ℤ◌, ◌≤◌, length, pos, IsTrue};
 ghost use Rattle.vhpi_values.specs.Types.{IsValue, IsSubtype, at_least_none, element_count, is_array, is_bit_or_logic, is_character, is_integer, is_time, is_enumeration, characters_of};
 ghost use Rattle.vhpi_values.specs.Formats.{character_at};
 ghost use Rattle.vhpi_values.specs.Values.{lowest, highest, IsWithin};
@@ -83,7 +83,8 @@ impl Base {
 
     /// The characters of the literals of BIT or STD_ULOGIC by position, and none for other types.
     pub fn characters(&self) -> &'static [u8]
-        ensures { result.now ≡ characters_of self.now }
+        ensures value { result.now ≡ characters_of self.now }
+        ensures few { length result.now ≤ 9 }
     {
         match self {
             Base::Bit => b"01",
@@ -115,12 +116,13 @@ pub struct IndexRange {
 }
 
 impl IndexRange {
-    ghost use Rattle.std.specs.Prelude.{◌≡◌};
+    ghost use Rattle.std.specs.Prelude.{◌≡◌, ◌≤◌, ◌^◌};
     ghost use Rattle.vhpi_values.specs.Types.{range_length};
 
     /// The number of indices: none where the bounds stand against the direction.
     pub fn len(&self) -> usize
-        ensures { result ≡ range_length self.now }
+        ensures value { result ≡ range_length self.now }
+        ensures few { result ≤ 2 ^ 32 }
     {
         if self.is_ascending {
             count_up(self.left, self.right)
@@ -131,7 +133,8 @@ impl IndexRange {
 }
 
 fn count_up(low: i32, high: i32) -> usize
-    ensures { result ≡ at_least_none (high -ℤ low +ℤ pos 1) }
+    ensures value { result ≡ at_least_none (high -ℤ low +ℤ pos 1) }
+    ensures few { result ≤ 2 ^ 32 }
 {
     if high < low {
         return 0;
@@ -225,7 +228,8 @@ impl Ty {
 
     /// The number of elements of a value: 1 for a scalar.
     pub fn element_count(&self) -> usize
-        ensures { result ≡ element_count self.now }
+        ensures value { result ≡ element_count self.now }
+        ensures few { result ≤ 2 ^ 32 }
     {
         match self.index() {
             None => 1,

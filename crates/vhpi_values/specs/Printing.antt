@@ -1,7 +1,7 @@
 use Rattle.std.specs.Prelude.{ℕ, ◌/◌, ◌%◌, Bool, true, false, not, ◌&&◌, ◌||◌, ◌==◌, nat_le, List, [], ◌∷◌, ◌++◌, map, ℤ, pos, unsigned_abs, slice_get, if◌then◌else◌, codes}
 use Rattle.std.specs.Option.{option_map_or}
 use Rattle.std.specs.List.{join_with_byte, flat_map}
-use Rattle.std.specs.Fmt.{decimal, signed_decimal, digit_glyph}
+use Rattle.std.specs.Fmt.{signed_decimal, digit_glyph}
 use Rattle.std.specs.Str.{str_to_ascii_lowercase}
 use Rattle.vhpi_values.specs.declared.types.Base.{Base}
 use Rattle.vhpi_values.specs.declared.types.Base.TheVariants as base
@@ -43,7 +43,7 @@ scalar_image base.Boolean n = if unsigned_abs n == 0 then codes "false" else cod
 scalar_image base.Bit n = character_literal (character_at base.Bit n)
 scalar_image base.Logic n = character_literal (character_at base.Logic n)
 scalar_image base.Character n =
-    if is_printable (unsigned_abs n) then character_literal (unsigned_abs n) else 35 ∷ decimal (unsigned_abs n)
+    if is_printable (unsigned_abs n) then character_literal (unsigned_abs n) else 35 ∷ signed_decimal n
 scalar_image (base.Own literals) n = literal_at literals n
 scalar_image base.Integer n = signed_decimal n
 scalar_image base.Time n = signed_decimal n ++ codes " fs"

@@ -2,6 +2,7 @@
 #![tactic(auto)]
 
 mod formats;
+mod printing;
 mod reading;
 mod sequence;
 mod types;
@@ -9,6 +10,7 @@ mod values;
 mod writing;
 
 pub use formats::{Format, FormatError, Formatted, ValueError};
+pub use printing::print_value;
 pub use reading::read_value;
 pub use sequence::Sequence;
 pub use types::{Base, IndexRange, Literal, Ty};

@@ -115,7 +115,7 @@ pub fn goes_with(format: Format, ty: &Ty) -> bool
     }
 }
 
-fn first_of(elements: &[i64]) -> i64
+pub(crate) fn first_of(elements: &[i64]) -> i64
     ensures { result ≡ first elements.now }
 {
     match elements {
@@ -213,7 +213,7 @@ fn is_binary(character: u8) -> bool
     character == b'0' || character == b'1'
 }
 
-fn glyph(value: u8) -> u8
+pub(crate) fn glyph(value: u8) -> u8
     requires { value < 16 }
     ensures { result ≡ digit_glyph true value }
 {

@@ -64,10 +64,18 @@ hex_digit group =
     if list_all is_binary group then digit_glyph true (group_value group)
     else (if list_all (λ c. c == 90) group then 90 else 88)
 
+-- whole groups of four characters
+abbrev pub groups : List ℕ → List (List ℕ)
+groups (a ∷ b ∷ c ∷ d ∷ rest) = (a ∷ b ∷ c ∷ d ∷ []) ∷ groups rest
+groups _ = []
+
 -- the digits of groups of four
 abbrev pub hex_digits : List ℕ → List ℕ
-hex_digits (a ∷ b ∷ c ∷ d ∷ rest) = hex_digit (a ∷ b ∷ c ∷ d ∷ []) ∷ hex_digits rest
-hex_digits _ = []
+hex_digits text = map hex_digit (groups text)
+
+-- a group that its digit stands for: of '0' and '1' alone, or a whole group of 'Z' alone or of 'X' alone
+abbrev pub is_exact : List ℕ → Bool
+is_exact group = list_all is_binary group || (list_all (λ c. c == 90) group || list_all (λ c. c == 88) group)
 
 -- one digit for four elements, from the right
 abbrev pub hex_text : Base → List ℤ → List ℕ

@@ -3,3 +3,4 @@ pub mod Values
 pub mod Formats
 pub mod Reading
 pub mod Printing
+pub mod Laws

@@ -2,6 +2,7 @@
 #![tactic(auto)]
 
 mod formats;
+pub mod laws;
 mod printing;
 mod reading;
 mod sequence;

@@ -44,7 +44,7 @@ pub fitting : (xs ys : List ℤ) (k n n' : ℕ) (ms more : List (Option (List �
 fitting xs ys k n n' ms more total s en em =
     record {
       is =
-        sym (after-behind xs ys k (gathered n' more)) ∙ ap (λ l. after xs k (gathered (suc n') l)) (sym em) ∙ ap (λ m. after xs k (gathered m ms)) (sym en) ∙ s.is
+          sym (after-behind xs ys k (gathered n' more)) ∙ ap (λ l. after xs k (gathered (suc n') l)) (sym em) ∙ ap (λ m. after xs k (gathered m ms)) (sym en) ∙ s.is;
     }
 
 -- a member that is missing

@@ -28,7 +28,7 @@ pub group-fits : (ty : Subtype) (xs : List ℤ) (filled : ℕ) (cs more : List �
 group-fits ty xs filled cs more c n total s ef ec e =
     record {
       is =
-        ap (λ f. onto (xs ++ n ∷ []) (places ty f more)) ef ∙ sym (onto-before xs n (places ty 0 more)) ∙ sym (ap (λ read. onto xs (before read (places ty 0 more))) e) ∙ ap (λ l. onto xs (places ty 0 l)) (sym ec) ∙ ap (λ f. onto xs (places ty f cs)) (sym ef) ∙ s.is
+          ap (λ f. onto (xs ++ n ∷ []) (places ty f more)) ef ∙ sym (onto-before xs n (places ty 0 more)) ∙ sym (ap (λ read. onto xs (before read (places ty 0 more))) e) ∙ ap (λ l. onto xs (places ty 0 l)) (sym ec) ∙ ap (λ f. onto xs (places ty f cs)) (sym ef) ∙ s.is;
     }
 
 -- digits after the leftmost one have no filled places

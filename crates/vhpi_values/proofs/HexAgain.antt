@@ -18,23 +18,23 @@ binary-cases c e = grind (arith, nat_tests)
 same-group : (a b c d : ℕ) → is_binary a ≡ true → is_binary b ≡ true → is_binary c ≡ true → is_binary d ≡ true → group_of (digit_glyph true (group_value (a ∷ b ∷ c ∷ d ∷ []))) ≡ Some (a ∷ b ∷ c ∷ d ∷ [])
 same-group a b c d ea eb ec ed =
     by a b c d (binary-cases a ea) (binary-cases b eb) (binary-cases c ec) (binary-cases d ed) where
-  by : (a b c d : ℕ) → (a ≡ 48) ⊎ (a ≡ 49) → (b ≡ 48) ⊎ (b ≡ 49) → (c ≡ 48) ⊎ (c ≡ 49) → (d ≡ 48) ⊎ (d ≡ 49) → group_of (digit_glyph true (group_value (a ∷ b ∷ c ∷ d ∷ []))) ≡ Some (a ∷ b ∷ c ∷ d ∷ [])
-  by a b c d (inl p) (inl q) (inl r) (inl s) = rw (p, q, r, s) refl
-  by a b c d (inl p) (inl q) (inl r) (inr s) = rw (p, q, r, s) refl
-  by a b c d (inl p) (inl q) (inr r) (inl s) = rw (p, q, r, s) refl
-  by a b c d (inl p) (inl q) (inr r) (inr s) = rw (p, q, r, s) refl
-  by a b c d (inl p) (inr q) (inl r) (inl s) = rw (p, q, r, s) refl
-  by a b c d (inl p) (inr q) (inl r) (inr s) = rw (p, q, r, s) refl
-  by a b c d (inl p) (inr q) (inr r) (inl s) = rw (p, q, r, s) refl
-  by a b c d (inl p) (inr q) (inr r) (inr s) = rw (p, q, r, s) refl
-  by a b c d (inr p) (inl q) (inl r) (inl s) = rw (p, q, r, s) refl
-  by a b c d (inr p) (inl q) (inl r) (inr s) = rw (p, q, r, s) refl
-  by a b c d (inr p) (inl q) (inr r) (inl s) = rw (p, q, r, s) refl
-  by a b c d (inr p) (inl q) (inr r) (inr s) = rw (p, q, r, s) refl
-  by a b c d (inr p) (inr q) (inl r) (inl s) = rw (p, q, r, s) refl
-  by a b c d (inr p) (inr q) (inl r) (inr s) = rw (p, q, r, s) refl
-  by a b c d (inr p) (inr q) (inr r) (inl s) = rw (p, q, r, s) refl
-  by a b c d (inr p) (inr q) (inr r) (inr s) = rw (p, q, r, s) refl
+      by : (a b c d : ℕ) → (a ≡ 48) ⊎ (a ≡ 49) → (b ≡ 48) ⊎ (b ≡ 49) → (c ≡ 48) ⊎ (c ≡ 49) → (d ≡ 48) ⊎ (d ≡ 49) → group_of (digit_glyph true (group_value (a ∷ b ∷ c ∷ d ∷ []))) ≡ Some (a ∷ b ∷ c ∷ d ∷ [])
+      by a b c d (inl p) (inl q) (inl r) (inl s) = rw (p, q, r, s) refl
+      by a b c d (inl p) (inl q) (inl r) (inr s) = rw (p, q, r, s) refl
+      by a b c d (inl p) (inl q) (inr r) (inl s) = rw (p, q, r, s) refl
+      by a b c d (inl p) (inl q) (inr r) (inr s) = rw (p, q, r, s) refl
+      by a b c d (inl p) (inr q) (inl r) (inl s) = rw (p, q, r, s) refl
+      by a b c d (inl p) (inr q) (inl r) (inr s) = rw (p, q, r, s) refl
+      by a b c d (inl p) (inr q) (inr r) (inl s) = rw (p, q, r, s) refl
+      by a b c d (inl p) (inr q) (inr r) (inr s) = rw (p, q, r, s) refl
+      by a b c d (inr p) (inl q) (inl r) (inl s) = rw (p, q, r, s) refl
+      by a b c d (inr p) (inl q) (inl r) (inr s) = rw (p, q, r, s) refl
+      by a b c d (inr p) (inl q) (inr r) (inl s) = rw (p, q, r, s) refl
+      by a b c d (inr p) (inl q) (inr r) (inr s) = rw (p, q, r, s) refl
+      by a b c d (inr p) (inr q) (inl r) (inl s) = rw (p, q, r, s) refl
+      by a b c d (inr p) (inr q) (inl r) (inr s) = rw (p, q, r, s) refl
+      by a b c d (inr p) (inr q) (inr r) (inl s) = rw (p, q, r, s) refl
+      by a b c d (inr p) (inr q) (inr r) (inr s) = rw (p, q, r, s) refl
 
 pub left-true : (a b : Bool) → a && b ≡ true → a ≡ true
 left-true true b e = refl
@@ -63,16 +63,17 @@ group-exact (a ∷ b ∷ []) h e = absurd (omega arith)
 group-exact (a ∷ b ∷ c ∷ []) h e = absurd (omega arith)
 group-exact (a ∷ b ∷ c ∷ d ∷ []) h e =
     by (list_all is_binary (a ∷ b ∷ c ∷ d ∷ [])) refl (list_all (λ e. e == 90) (a ∷ b ∷ c ∷ d ∷ [])) refl (list_all (λ e. e == 88) (a ∷ b ∷ c ∷ d ∷ [])) refl e where
-  group : List ℕ
-  group = a ∷ b ∷ c ∷ d ∷ []
-  by : (x : Bool) → list_all is_binary (a ∷ b ∷ c ∷ d ∷ []) ≡ x → (y : Bool) → list_all (λ e. e == 90) (a ∷ b ∷ c ∷ d ∷ []) ≡ y → (z : Bool) → list_all (λ e. e == 88) (a ∷ b ∷ c ∷ d ∷ []) ≡ z → x || (y || z) ≡ true → group_of (if x then digit_glyph true (group_value (a ∷ b ∷ c ∷ d ∷ [])) else (if y then 90 else 88)) ≡ Some (a ∷ b ∷ c ∷ d ∷ [])
-  by true ex y ey z ez t =
-      let rb = right-true _ _ ex in
-      let rc = right-true _ _ rb in
-      same-group a b c d (left-true _ _ ex) (left-true _ _ rb) (left-true _ _ rc) (left-true _ _ (right-true _ _ rc))
-  by false ex true ey z ez t = ap Some (sym (four-same 90 a b c d ey))
-  by false ex false ey true ez t = ap Some (sym (four-same 88 a b c d ez))
-  by false ex false ey false ez t = cc
+      group : List ℕ
+      group = a ∷ b ∷ c ∷ d ∷ []
+
+      by : (x : Bool) → list_all is_binary (a ∷ b ∷ c ∷ d ∷ []) ≡ x → (y : Bool) → list_all (λ e. e == 90) (a ∷ b ∷ c ∷ d ∷ []) ≡ y → (z : Bool) → list_all (λ e. e == 88) (a ∷ b ∷ c ∷ d ∷ []) ≡ z → x || (y || z) ≡ true → group_of (if x then digit_glyph true (group_value (a ∷ b ∷ c ∷ d ∷ [])) else (if y then 90 else 88)) ≡ Some (a ∷ b ∷ c ∷ d ∷ [])
+      by true ex y ey z ez t =
+          let rb = right-true _ _ ex in
+          let rc = right-true _ _ rb in
+          same-group a b c d (left-true _ _ ex) (left-true _ _ rb) (left-true _ _ rc) (left-true _ _ (right-true _ _ rc))
+      by false ex true ey z ez t = ap Some (sym (four-same 90 a b c d ey))
+      by false ex false ey true ez t = ap Some (sym (four-same 88 a b c d ez))
+      by false ex false ey false ez t = cc
 group-exact (a ∷ b ∷ c ∷ d ∷ e' ∷ r) h e = absurd (omega arith)
 
 -- any other group has the digit 'X'
@@ -125,6 +126,7 @@ digit-exact ty filled v s e w h = (only (is_exact (group ty filled v)) refl, if_
   if_exact : is_exact (group ty filled v) ≡ true → digit ty filled (hex_digit (group ty filled v)) ≡ Some v
   if_exact t =
       ap (option_and_then (places ty filled)) (group-exact (group ty filled v) (group-size ty filled v h) t) ∙ places-back ty filled v s e w
+
   only : (b : Bool) → is_exact (group ty filled v) ≡ b → digit ty filled (hex_digit (group ty filled v)) ≡ Some v → is_exact (group ty filled v) ≡ true
   only true t d = t
   only false t d = x-exact ty filled v (ap (digit ty filled) (sym (group-inexact (group ty filled v) t)) ∙ d)
@@ -149,6 +151,7 @@ combine n m ms front rest x xs one size more = (only, back) where
       let g = gathered-ok n m ms (front ++ rest) e in
       let f = same-front g.0 g.1 front rest (sym g.4) (size g.0 g.2) in
       rw (one.0 (g.2 ∙ ap Some f.0), more.0 (g.3 ∙ ap Ok f.1)) refl
+
   back : x && xs ≡ true → gathered (suc n) (m ∷ ms) ≡ Ok (front ++ rest)
   back t =
       ap (λ o. gathered (suc n) (o ∷ ms)) (one.1 (left-true x xs t)) ∙ ap (behind front) (more.1 (right-true x xs t))

@@ -9,9 +9,9 @@ behind-err xs (Err q) place e = let s : q + 1 ≡ place = cc in (q, refl, omega 
 later : (n : ℕ) (xs : List ℤ) (ms : List (Option (List ℤ))) (q : ℕ) → IsFirstMisfit n ms q → IsFirstMisfit (suc n) (Some xs ∷ ms) (suc q)
 later n xs ms q m =
     record { before = before; here = λ f. m.here (f.0, omega (arith, f.1), f.2); is_place = omega (arith, m.is_place) } where
-  before : (k : ℕ) → k < suc q → FitsAt (suc n) (Some xs ∷ ms) k
-  before zero h = (xs, omega arith, refl)
-  before (suc k) h = let f = m.before k (omega arith) in (f.0, omega (arith, f.1), f.2)
+      before : (k : ℕ) → k < suc q → FitsAt (suc n) (Some xs ∷ ms) k
+      before zero h = (xs, omega arith, refl)
+      before (suc k) h = let f = m.before k (omega arith) in (f.0, omega (arith, f.1), f.2)
 
 pub first-misfit : (n : ℕ) (ms : List (Option (List ℤ))) (place : ℕ) → gathered n ms ≡ Err place → IsFirstMisfit n ms place
 first-misfit zero [] place e = cc

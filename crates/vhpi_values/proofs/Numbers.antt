@@ -35,7 +35,7 @@ pub within-value : (ty : Subtype) (n : ℤ) → IsSubtype ty → IsWithin ty n �
 within-value ty n s w =
     record {
       least = least-below _ _ _ _ s.left.least s.right.least w.low;
-      greatest = greatest-above _ _ _ _ s.left.greatest s.right.greatest w.high
+      greatest = greatest-above _ _ _ _ s.left.greatest s.right.greatest w.high;
     }
 
 -- a number from 0 on is the position that it counts
@@ -94,11 +94,11 @@ pub byte-back : (ty : Subtype) (n : ℤ) → IsSubtype ty → is_character ty.ba
 byte-back ty n s e w =
     let z : pos (unsigned_abs n) ≡ n = from-zero n (rw (at ty.base e) at (within-value ty n s w).least) in
     ap (number ty) z ∙ number-within ty n w where
-  at : (base : Base) → is_character base ≡ true → least_of base ≡ pos 0
-  at Character e = refl
-  at Bit e = refl
-  at Logic e = refl
-  at Boolean e = refl
-  at (Own l) e = refl
-  at Integer e = cc
-  at Time e = refl
+      at : (base : Base) → is_character base ≡ true → least_of base ≡ pos 0
+      at Character e = refl
+      at Bit e = refl
+      at Logic e = refl
+      at Boolean e = refl
+      at (Own l) e = refl
+      at Integer e = cc
+      at Time e = refl

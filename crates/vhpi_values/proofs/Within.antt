@@ -69,9 +69,9 @@ one-part ty f within (suc n) v e =
     let g = gathered-ok n (single f) [] v e in
     let p = part-append ty 1 n g.0 g.1 (single-part ty f g.0 within g.2) (none n g.1 g.3) in
     rw g.4 (record { count = omega (arith, p.count); each = p.each }) where
-  none : (n : ℕ) (w : List ℤ) → gathered n [] ≡ Ok w → Part ty n w
-  none zero w e = let s : [] ≡ w = cc in rw (← s) (record { count = refl; each = tt })
-  none (suc n) w e = cc
+      none : (n : ℕ) (w : List ℤ) → gathered n [] ≡ Ok w → Part ty n w
+      none zero w e = let s : [] ≡ w = cc in rw (← s) (record { count = refl; each = tt })
+      none (suc n) w e = cc
 
 pub number-fits : (ty : Subtype) (n m : ℤ) → number ty n ≡ Some m → IsWithin ty m
 number-fits ty n m e = let i = number-is ty n m e in rw i.0 i.1
@@ -104,15 +104,16 @@ places-part ty zero (c ∷ cs) ys k e h =
     rw b.4 (record { count = omega (arith, p.count); each = (character-fits ty c b.0 b.2, p.each) })
 places-part ty (suc filled) (c ∷ cs) ys k e h =
     by (c == 48) (λ more. places-part ty filled cs ys k more (omega arith)) e where
-  by : (b : Bool) → (places ty filled cs ≡ Some ys → Part ty k ys) → (if b then places ty filled cs else None) ≡ Some ys → Part ty k ys
-  by true ih e = ih e
-  by false ih e = cc
+      by : (b : Bool) → (places ty filled cs ≡ Some ys → Part ty k ys) → (if b then places ty filled cs else None) ≡ Some ys → Part ty k ys
+      by true ih e = ih e
+      by false ih e = cc
 
 pub group-length : (d : ℕ) (group : List ℕ) → group_of d ≡ Some group → length group ≡ 4
 group-length d group e = by ((d == 88) || (d == 90)) e where
   bits : (o : Option ℕ) → option_map four_bits o ≡ Some group → length group ≡ 4
   bits None e = cc
   bits (Some n) e = let s : four_bits n ≡ group = cc in rw (← s) refl
+
   by : (b : Bool) → (if b then Some (replicate 4 d) else option_map four_bits (position (λ other. other == d) (codes "0123456789ABCDEF"))) ≡ Some group → length group ≡ 4
   by true e = let s : replicate 4 d ≡ group = cc in rw (← s) refl
   by false e = bits _ e

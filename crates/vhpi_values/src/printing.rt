@@ -122,7 +122,11 @@ fn print_literal(alloc: Global, literal: &Literal) -> Result<Vec<u8>, NoMemory>
 fn lowercase(alloc: Global, name: &[u8]) -> Result<Vec<u8>, NoMemory>
     ensures { IfOk result (λ text. text.items ≡ str_to_ascii_lowercase name.now) }
 {
-    Ok(name.iter().map(|byte| byte.to_ascii_lowercase()).collect(alloc)?)
+    Ok(
+        name.iter()
+            .map(|byte| byte.to_ascii_lowercase())
+            .collect(alloc)?,
+    )
 }
 
 fn print_scalar(alloc: Global, ty: &Ty, number: i64) -> Result<Vec<u8>, NoMemory>
@@ -161,11 +165,7 @@ fn print_position(alloc: Global, position: i64) -> Result<Vec<u8>, NoMemory>
     Ok(text)
 }
 
-fn print_literal_at(
-    alloc: Global,
-    literals: &[Literal],
-    position: i64,
-) -> Result<Vec<u8>, NoMemory>
+fn print_literal_at(alloc: Global, literals: &[Literal], position: i64) -> Result<Vec<u8>, NoMemory>
     ensures { IfOk result (λ text. text.items ≡ literal_at literals.now position) }
 {
     match literals.get(position.unsigned_abs() as usize) {

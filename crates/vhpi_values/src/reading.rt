@@ -2,6 +2,7 @@
 
 ghost use Rattle.std.specs.Prelude.{◌≡◌, ◌+◌, ◌-◌, ◌^◌, ◌/◌, ◌↔◌, false, min, map, option_map, option_and_then, IfOk, IfSome, OnOk, ◌++◌, IsErrOf, Ok, Err, ℕ, pos, position, ◌==◌, ◌<◌, length};
 ghost use Rattle.vhpi_values.specs.Types.{element_count};
+ghost use Rattle.vhpi_values.specs.Values.{Fits};
 ghost use Rattle.vhpi_values.specs.Formats.{pairs, filling};
 ghost use Rattle.vhpi_values.specs.Reading.{number, byte, character, natural_number, decimal_text, four_bits, group_of, signed, places, digit, digits, single, gathered, Answers, reading, format_of};
 
@@ -18,6 +19,7 @@ use std::alloc::Global;
 /// don't agree.
 pub fn read_value(alloc: Global, ty: &Ty, from: &Formatted) -> Result<Val, ValueError>
     ensures value { IfOk result (λ val. reading ty.now from.now ≡ Ok val) }
+    ensures fits { IfOk result (Fits ty.now) }
     ensures bad_format { IsErrOf result ValueError.BadFormat ↔ (pairs (format_of from.now) ty.now ≡ false) }
     ensures bad_value { (place : ℕ) → IsErrOf result (ValueError.BadValue place) → reading ty.now from.now ≡ Err place }
 {
@@ -134,7 +136,9 @@ fn natural(digits: &[u8]) -> Option<u64>
         if !digit.is_ascii_digit() {
             return None;
         }
-        value = value.saturating_mul(10).saturating_add(u64::from(*digit - b'0'));
+        value = value
+            .saturating_mul(10)
+            .saturating_add(u64::from(*digit - b'0'));
     }
     Some(value)
 }
@@ -256,17 +260,30 @@ fn read_digit(
 fn characters(alloc: Global, ty: &Ty, text: &[u8]) -> Result<Vec<Option<i64>>, NoMemory>
     ensures { IfOk result (λ read. read.items ≡ map (character ty.now) text.now) }
 {
-    Ok(text.iter().map(|value| read_character(ty, *value)).collect(alloc)?)
+    Ok(
+        text.iter()
+            .map(|value| read_character(ty, *value))
+            .collect(alloc)?,
+    )
 }
 
 fn bytes(alloc: Global, ty: &Ty, text: &[u8]) -> Result<Vec<Option<i64>>, NoMemory>
     ensures { IfOk result (λ read. read.items ≡ map (byte ty.now) text.now) }
 {
-    Ok(text.iter().map(|value| read_byte(ty, *value)).collect(alloc)?)
+    Ok(
+        text.iter()
+            .map(|value| read_byte(ty, *value))
+            .collect(alloc)?,
+    )
 }
 
 fn numbers(alloc: Global, ty: &Ty, values: &[i64]) -> Result<Vec<Option<i64>>, NoMemory>
     ensures { IfOk result (λ read. read.items ≡ map (number ty.now) values.now) }
 {
-    Ok(values.iter().map(|value| read_number(ty, *value)).collect(alloc)?)
+    Ok(
+        values
+            .iter()
+            .map(|value| read_number(ty, *value))
+            .collect(alloc)?,
+    )
 }

@@ -1,9 +1,11 @@
-ghost use Rattle.std.specs.Prelude.{◌≡◌, ◌↔◌, ◌^◌, ◌+ℤ◌, ◌-ℤ◌, ◌≤◌, length, pos, IsTrue};
-ghost use Rattle.vhpi_values.specs.Types.{IsValue, IsSubtype, at_least_none, element_count, is_array, is_bit_or_logic, is_character, is_integer, is_time, is_enumeration, characters_of};
+ghost use Rattle.std.specs.Prelude.{◌≡◌, ◌↔◌, ◌^◌, ◌+ℤ◌, ◌-ℤ◌, ◌≤◌, length, pos, true, IsTrue, IfOk};
+ghost use Rattle.vhpi_values.specs.Types.{IsValue, IsSubtype, at_least_none, element_count, is_array, can_be_element, is_bit_or_logic, is_character, is_integer, is_time, is_enumeration, characters_of};
 ghost use Rattle.vhpi_values.specs.Formats.{character_at};
 ghost use Rattle.vhpi_values.specs.Values.{lowest, highest, IsWithin};
 
 use crate::sequence::Sequence;
+use crate::values::NoMemory;
+use std::alloc::Global;
 use std::marker::Model;
 
 /// A literal of an enumeration type of the design's own.
@@ -13,6 +15,30 @@ pub enum Literal {
     Character(u8),
     /// An identifier, as it is written.
     Identifier(Sequence<u8>),
+}
+
+impl Literal {
+    fn copy(&self, alloc: Global) -> Result<Literal, NoMemory>
+        ensures { IfOk result (λ literal. literal ≡ self.now) }
+    {
+        match self {
+            Literal::Character(character) => Ok(Literal::Character(*character)),
+            Literal::Identifier(name) => {
+                let bytes = Vec::from_slice(alloc, name.as_slice())?;
+                Ok(Literal::Identifier(Sequence::from_vec(bytes)))
+            }
+        }
+    }
+}
+
+fn copy_literals(alloc: Global, literals: &[Literal]) -> Result<Sequence<Literal>, NoMemory>
+    ensures { IfOk result (λ copies. copies ≡ literals.now) }
+{
+    let mut copies = Vec::new(alloc);
+    for literal in literals {
+        copies.push(literal.copy(alloc)?)?;
+    }
+    Ok(Sequence::from_vec(copies))
 }
 
 /// What a type is made of.
@@ -43,6 +69,28 @@ impl Base {
             Base::Own(literals) => 0 <= number && (number as usize) < literals.len(),
             Base::Integer => i64::from(i32::MIN) <= number && number <= i64::from(i32::MAX),
             Base::Time => 0 <= number,
+        }
+    }
+
+    /// There are arrays of the type.
+    pub fn can_be_element(&self) -> bool
+        ensures { result ≡ can_be_element self.now }
+    {
+        self.is_bit_or_logic() || self.is_character() || self.is_integer()
+    }
+
+    /// The same type again.
+    pub fn copy(&self, alloc: Global) -> Result<Base, NoMemory>
+        ensures { IfOk result (λ base. base ≡ self.now) }
+    {
+        match self {
+            Base::Boolean => Ok(Base::Boolean),
+            Base::Bit => Ok(Base::Bit),
+            Base::Character => Ok(Base::Character),
+            Base::Logic => Ok(Base::Logic),
+            Base::Own(literals) => Ok(Base::Own(copy_literals(alloc, literals.as_slice())?)),
+            Base::Integer => Ok(Base::Integer),
+            Base::Time => Ok(Base::Time),
         }
     }
 
@@ -180,6 +228,35 @@ impl Ty {
             is_resolved,
             index: None,
         }
+    }
+
+    /// A subtype of an array type: elements with these bounds over this index range.
+    pub fn array(base: Base, left: i64, right: i64, is_resolved: bool, index: IndexRange) -> Ty
+        requires left_in_base { IsValue base left }
+        requires right_in_base { IsValue base right }
+        requires of_element { can_be_element base ≡ true }
+        ensures { result ≡ record { base = base; left = left; right = right; is_resolved = is_resolved; index = Some index } }
+    {
+        Ty {
+            base,
+            left,
+            right,
+            is_resolved,
+            index: Some(index),
+        }
+    }
+
+    /// The same subtype again.
+    pub fn copy(&self, alloc: Global) -> Result<Ty, NoMemory>
+        ensures { IfOk result (λ ty. ty ≡ self.now) }
+    {
+        Ok(Ty {
+            base: self.base.copy(alloc)?,
+            left: self.left,
+            right: self.right,
+            is_resolved: self.is_resolved,
+            index: self.index,
+        })
     }
 
     /// What the type is made of.

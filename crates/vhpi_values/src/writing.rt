@@ -34,12 +34,7 @@ pub fn format_value(
     Ok(formatted)
 }
 
-fn write(
-    alloc: Global,
-    ty: &Ty,
-    elements: &[i64],
-    format: Format,
-) -> Result<Formatted, NoMemory>
+fn write(alloc: Global, ty: &Ty, elements: &[i64], format: Format) -> Result<Formatted, NoMemory>
     requires fits { Fits ty.now elements.now }
     requires goes_with { pairs format ty.now ≡ true }
     ensures { IfOk result (λ formatted. formatted ≡ content format ty.now elements.now) }
@@ -127,14 +122,24 @@ pub(crate) fn first_of(elements: &[i64]) -> i64
 pub(crate) fn literals(alloc: Global, base: &Base, elements: &[i64]) -> Result<Vec<u8>, NoMemory>
     ensures { IfOk result (λ text. text.items ≡ literal_text base.now elements.now) }
 {
-    Ok(elements.iter().map(|position| base.character_at(*position)).collect(alloc)?)
+    Ok(
+        elements
+            .iter()
+            .map(|position| base.character_at(*position))
+            .collect(alloc)?,
+    )
 }
 
 pub(crate) fn bytes(alloc: Global, elements: &[i64]) -> Result<Vec<u8>, NoMemory>
     requires { All (IsValue Base.Character) elements.now }
     ensures { IfOk result (λ text. text.items ≡ string_text elements.now) }
 {
-    Ok(elements.iter().map(|position| position.unsigned_abs() as u8).collect(alloc)?)
+    Ok(
+        elements
+            .iter()
+            .map(|position| position.unsigned_abs() as u8)
+            .collect(alloc)?,
+    )
 }
 
 pub(crate) fn decimal(alloc: Global, number: i64) -> Result<Vec<u8>, NoMemory>

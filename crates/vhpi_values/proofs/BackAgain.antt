@@ -1,4 +1,4 @@
-use Rattle.std.proofs.Common.{◌≡◌, ◌≢◌, ℕ, zero, suc, ◌+◌, ◌<◌, ◌≤◌, Bool, true, false, not, ◌&&◌, ◌||◌, IsTrue, List, [], ◌∷◌, ◌++◌, length, get_or, map, refl, sym, ◌∙◌, ap, arith, rules, tests, ℤ, pos, Option, Some, None, Result, Ok, Err, is_some, option_and_then, All}
+use Rattle.std.proofs.Common.{◌≡◌, ◌≢◌, ℕ, suc, ◌<◌, Bool, true, false, not, ◌&&◌, ◌||◌, IsTrue, List, [], ◌∷◌, length, get_or, map, refl, sym, ◌∙◌, ap, arith, ℤ, Option, Some, None, Ok, option_and_then}
 use Rattle.std.specs.Fmt.{signed_decimal}
 use Rattle.vhpi_values.specs.declared.types.Base.{Base}
 use Rattle.vhpi_values.specs.declared.types.Base.TheVariants as base

@@ -1,4 +1,4 @@
-use Rattle.std.proofs.Common.{◌≡◌, ℕ, zero, suc, ◌+◌, List, [], ◌∷◌, ◌++◌, refl, sym, ◌∙◌, ap, append_assoc, arith, ℤ, Option, Some, None, option_map, map}
+use Rattle.std.proofs.Common.{◌≡◌, ℕ, List, [], ◌∷◌, ◌++◌, refl, sym, ◌∙◌, ap, append_assoc, ℤ, Option, Some, None, option_map, map}
 use Rattle.vhpi_values.specs.Types.{Subtype}
 use Rattle.vhpi_values.specs.Reading.{character, places, before, digit, digits}
 

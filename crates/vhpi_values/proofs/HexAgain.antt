@@ -1,13 +1,13 @@
-use Rattle.std.proofs.Common.{◌≡◌, ◌↔◌, ℕ, zero, suc, ◌+◌, ◌*◌, ◌-◌, ◌/◌, ◌%◌, ◌<◌, ◌≤◌, Bool, true, false, ◌||◌, ◌&&◌, if◌then◌else◌, ◌⊎◌, inl, inr, List, [], ◌∷◌, ◌++◌, length, get_or, map, replicate, take, drop, refl, sym, ◌∙◌, ap, append_assoc, arith, ℤ, pos, Option, Some, None, Result, Ok, Err, option_map, option_and_then, position, codes, ◌==◌, length-append, length-take, IsTrue, length-drop, eqb-true, slice_index}
+use Rattle.std.proofs.Common.{◌≡◌, ◌↔◌, ℕ, zero, suc, ◌+◌, ◌*◌, ◌-◌, ◌/◌, ◌<◌, ◌≤◌, Bool, true, false, ◌||◌, ◌&&◌, if◌then◌else◌, ◌⊎◌, inl, inr, List, [], ◌∷◌, ◌++◌, length, map, replicate, take, drop, refl, sym, ◌∙◌, ap, append_assoc, arith, ℤ, pos, Option, Some, None, Ok, option_and_then, position, ◌==◌, length-append, length-take, length-drop, eqb-true}
 use Rattle.std.specs.List.{list_all}
 use Rattle.std.specs.Fmt.{digit_glyph}
 use Rattle.std.proofs.lemmas.Bool.Decides.{nat_tests}
 use Rattle.std.proofs.lemmas.List.{take-append-drop, map-append, length-map, length-replicate}
 use Rattle.std.proofs.lemmas.List.Quantifiers.{position-Some}
 use Rattle.vhpi_values.specs.Types.{Subtype, IsSubtype, element_count, is_bit_or_logic, characters_of}
-use Rattle.vhpi_values.specs.Values.{Fits, IsWithin}
+use Rattle.vhpi_values.specs.Values.{Fits}
 use Rattle.vhpi_values.specs.Formats.{filling, filled, is_binary, group_value, hex_digit, is_exact, groups, character_at, literal_text}
-use Rattle.vhpi_values.specs.Reading.{gathered, behind, character, before, places, group_of, four_bits, digit, digits, number}
+use Rattle.vhpi_values.specs.Reading.{gathered, behind, character, before, places, group_of, digit, digits, number}
 use Rattle.vhpi_values.proofs.Numbers.{character-back, number-is}
 use Rattle.vhpi_values.proofs.Within.{Each, all-each, before-ok, gathered-ok, digit-part, filling-le, filling-wanted}
 

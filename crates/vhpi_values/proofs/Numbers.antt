@@ -1,10 +1,9 @@
-use Rattle.std.proofs.Common.{◌≡◌, ◌≢◌, ℕ, zero, suc, ◌+◌, ◌<◌, ◌≤◌, Bool, true, false, ◌&&◌, if◌then◌else◌, List, [], ◌∷◌, ◌++◌, length, get_or, map, refl, sym, ◌∙◌, ap, arith, rules, tests, ℤ, pos, negsuc, ◌≤ℤ◌, Option, Some, None, Result, Ok, Err, option_map, option_and_then, position, slice_index, unsigned_abs, codes, ◌==◌, int_le, All}
+use Rattle.std.proofs.Common.{◌≡◌, ℕ, zero, suc, ◌+◌, ◌<◌, Bool, true, false, ◌&&◌, if◌then◌else◌, refl, ◌∙◌, ap, arith, ℤ, pos, negsuc, ◌≤ℤ◌, Some, None, option_and_then, position, slice_index, unsigned_abs, codes, ◌==◌, int_le}
 use Rattle.std.specs.Int.{int_min, int_max}
 use Rattle.std.proofs.lemmas.Int.{ints, clamps}
-use Rattle.std.proofs.lemmas.Bool.Decides.{nat_tests}
 use Rattle.vhpi_values.specs.declared.types.Base.{Base}
 use Rattle.vhpi_values.specs.declared.types.Base.TheVariants.{Boolean, Bit, Character, Logic, Own, Integer, Time}
-use Rattle.vhpi_values.specs.Types.{Subtype, IsSubtype, IsValue, least_of, greatest_of, characters_of, is_bit_or_logic, is_character}
+use Rattle.vhpi_values.specs.Types.{Subtype, IsSubtype, IsValue, least_of, characters_of, is_bit_or_logic, is_character}
 use Rattle.vhpi_values.specs.Values.{lowest, highest, IsWithin}
 use Rattle.vhpi_values.specs.Formats.{character_at}
 use Rattle.vhpi_values.specs.Reading.{number, byte, character}

@@ -1,5 +1,4 @@
-use Rattle.std.proofs.Common.{◌≡◌, ℕ, zero, suc, ◌+◌, ◌*◌, ◌-◌, ◌/◌, ◌%◌, ◌<◌, ◌≤◌, Bool, true, false, ◌||◌, if◌then◌else◌, List, [], ◌∷◌, ◌++◌, length, get_or, map, replicate, refl, sym, ◌∙◌, ap, arith, ℤ, pos, Option, Some, None, Result, Ok, Err, option_map, option_and_then, position, codes, ◌==◌, All, length-append}
-use Rattle.std.proofs.lemmas.Bool.Decides.{nat_tests}
+use Rattle.std.proofs.Common.{◌≡◌, ℕ, zero, suc, ◌+◌, ◌*◌, ◌-◌, ◌/◌, ◌≤◌, Bool, true, false, ◌||◌, if◌then◌else◌, List, [], ◌∷◌, ◌++◌, length, map, replicate, refl, ◌∙◌, arith, ℤ, pos, Option, Some, None, Result, Ok, Err, option_map, option_and_then, position, codes, ◌==◌, All, length-append}
 use Rattle.vhpi_values.specs.declared.formats.Formatted.{Formatted}
 use Rattle.vhpi_values.specs.declared.formats.Formatted.TheVariants as formatted
 use Rattle.vhpi_values.specs.Types.{Subtype, element_count, characters_of}

@@ -1,7 +1,6 @@
-use Rattle.std.specs.Prelude.{◌≡◌, ℕ, suc, zero, ◌+◌, ◌-◌, ◌*◌, ◌/◌, ◌%◌, ◌<◌, max, Bool, true, false, not, ◌&&◌, ◌||◌, ◌==◌, nat_le, List, [], ◌∷◌, ◌++◌, map, length, fold, replicate, position, ℤ, pos, neg_ℤ, int_le, Option, Some, None, option_map, option_and_then, Result, Ok, Err, if◌then◌else◌, codes, slice_get, ⊤}
+use Rattle.std.specs.Prelude.{◌≡◌, ℕ, suc, zero, ◌+◌, ◌-◌, ◌*◌, ◌/◌, ◌%◌, ◌<◌, max, Bool, true, false, ◌&&◌, ◌||◌, ◌==◌, nat_le, List, [], ◌∷◌, ◌++◌, map, length, fold, replicate, position, ℤ, pos, neg_ℤ, int_le, Option, Some, None, option_map, option_and_then, Result, Ok, Err, if◌then◌else◌, codes, slice_get, ⊤}
 use Rattle.std.specs.List.{list_all}
 use Rattle.std.specs.Char.{is_ascii_digit}
-use Rattle.vhpi_values.specs.declared.types.Base.{Base}
 use Rattle.vhpi_values.specs.declared.formats.Format.{Format}
 use Rattle.vhpi_values.specs.declared.formats.Format.TheVariants as format
 use Rattle.vhpi_values.specs.declared.formats.Formatted.{Formatted}

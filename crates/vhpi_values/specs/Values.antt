@@ -1,4 +1,4 @@
-use Rattle.std.specs.Prelude.{◌≡◌, ℕ, List, length, ℤ, ◌≤ℤ◌, All, replicate}
+use Rattle.std.specs.Prelude.{◌≡◌, List, length, ℤ, ◌≤ℤ◌, All, replicate}
 use Rattle.std.specs.Int.{int_min, int_max}
 use Rattle.vhpi_values.specs.Types.{Subtype, element_count}
 

@@ -1,7 +1,7 @@
-use Rattle.std.proofs.Common.{rules, arith, map, drop, get_or, ◌≡◌, ◌-◌, ◌+◌, suc, [], ◌∷◌, ap, ◌∙◌, w64, FitsSigned, None, Some}
+use Rattle.std.proofs.Common.{rules, arith, map, drop, ◌-◌, ◌+◌, ◌∷◌, ap, ◌∙◌, w64, FitsSigned, None}
 use Rattle.std.proofs.lemmas.List.{at_drop_more, at_drop_all}
 use Rattle.std.proofs.lemmas.Int.{to_z-of_z}
-use Rattle.vhpi_values.specs.Reading.{single, gathered}
+use Rattle.vhpi_values.specs.Reading.{single}
 use Rattle.vhpi_values.proofs.Gathering.{starts, surplus, misfit, fitting, missing, done}
 use Rattle.vhpi_values.proofs.reading.gather.Goals as goal
 

@@ -1,7 +1,7 @@
-use Rattle.std.proofs.Common.{rules, arith, sym, ◌≡◌, ◌∷◌, [], ◌+◌, ◌-◌, ◌/◌, drop, length, map, ap, ◌∙◌, option_map}
+use Rattle.std.proofs.Common.{arith, sym, ◌∷◌, ◌+◌, ◌-◌, ◌/◌, drop, length, map, ap, ◌∙◌, option_map}
 use Rattle.std.proofs.lemmas.List.{at_drop_more, at_drop_all}
 use Rattle.vhpi_values.specs.Reading.{digit, digits}
-use Rattle.vhpi_values.proofs.Gathering.{starts, surplus, misfit, fitting, missing, done}
+use Rattle.vhpi_values.proofs.Gathering.{surplus, misfit, fitting, missing, done}
 use Rattle.vhpi_values.proofs.Groups.{digits-later}
 use Rattle.vhpi_values.proofs.reading.read_digits.Goals as goal
 

@@ -1,4 +1,4 @@
-use Rattle.std.proofs.Common.{◌≡◌, ◌+◌, ◌-◌, ◌/◌, ◌≤◌, drop, length}
+use Rattle.std.proofs.Common.{◌-◌, ◌≤◌, drop}
 use Rattle.vhpi_values.specs.Types.{element_count}
 use Rattle.vhpi_values.specs.Formats.{filling}
 use Rattle.vhpi_values.specs.Reading.{digits, gathered}

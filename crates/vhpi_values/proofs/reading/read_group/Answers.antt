@@ -1,7 +1,7 @@
-use Rattle.std.proofs.Common.{rules, arith, sym, ◌≡◌, ◌∷◌, [], ◌+◌, drop, get_or, ap, ◌∙◌, w64, FitsSigned}
+use Rattle.std.proofs.Common.{rules, arith, sym, w64, FitsSigned}
 use Rattle.std.proofs.lemmas.List.{at_drop_more}
 use Rattle.std.proofs.lemmas.Int.{to_z-of_z}
-use Rattle.vhpi_values.proofs.Groups.{group-starts, group-misfit, group-fits}
+use Rattle.vhpi_values.proofs.Groups.{group-misfit, group-fits}
 use Rattle.vhpi_values.proofs.reading.read_group.Goals as goal
 
 pub returns-in-None : goal.returns-in-None

@@ -1,0 +1,9 @@
+pub mod Gathering
+pub mod Groups
+pub mod Joined
+pub mod Numbers
+pub mod Decimals
+pub mod BackAgain
+pub mod Misfits
+pub mod Within
+pub mod HexAgain

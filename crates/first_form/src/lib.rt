@@ -1,5 +1,5 @@
 //! The design files of the first form, which are those that can be run so far: an entity and an
-//! architecture of it, with signals of type BIT and one assignment of literal values to each.
+//! architecture of it, with signals of type BIT and at most one assignment of literal values to each.
 //! docs/FIRST_FORM.md has the form. Each text of it is read into its design, and every other text
 //! is refused.
 #![tactic(auto)]

@@ -5,8 +5,8 @@ use Rattle.sim_design.specs.declared.Design.{Design}
 use Rattle.sim_design.specs.declared.Net.{Net}
 use Rattle.sim_design.specs.declared.Process.{Process}
 use Rattle.sim_design.specs.declared.WaveformElement.{WaveformElement}
-use Rattle.sim_waves.specs.declared.Transaction.{Transaction}
-use Rattle.sim_waves.specs.declared.DelayMode.TheVariants as mode
+use Rattle.vhpi_values.specs.declared.driving.Transaction.{Transaction}
+use Rattle.vhpi_values.specs.declared.driving.DelayMode.TheVariants as mode
 use Rattle.sim_waves.specs.Waveform.{Waveform, Assign, is_active, at_time, first_time}
 use Rattle.sim_journal.specs.declared.Entry.{Entry}
 use Rattle.sim_journal.specs.declared.Entry.TheVariants as entries

@@ -60,11 +60,11 @@ fn run<H: Host>(alloc: Global, kernel: &mut Kernel, host: &mut H) -> Result<End,
     }
 }
 
-/// Reads the text of a design file and runs its design. The text has at most 1,048,576 bytes, and
-/// the limit is from 1 to 10,000,000. Each entry is written to Out as a line, in order, section by
-/// section. Answers how the run ended; `NotBuilt` where the text isn't of the form that can be run
-/// so far; `Host` only where the host's count of faults rose or stands at its last value. A run that
-/// is interrupted has written the first part of its lines.
+/// Reads the text of a design file, which has at most 1,048,576 bytes, and runs its design. Each
+/// entry is written to Out as a line, in order, section by section. Answers how the run ended;
+/// `NotBuilt` where the text isn't of the form that can be run so far; `Host` only where the host's
+/// count of faults rose or stands at its last value. A run that is interrupted has written the first
+/// part of its lines.
 pub fn run_session<H: Host>(alloc: Global, job: Job, host: &mut H) -> Result<End, SessionFault>
     requires { length job.text.items ≤ 1048576 }
     ensures runs { Runs result job.text.items job.limit (H.seen host.old) (H.seen host.new) }

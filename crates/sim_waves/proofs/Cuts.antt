@@ -4,9 +4,9 @@ use Rattle.std.proofs.lemmas.List.{take-append-drop, drop-drop, take-append-le, 
 use Rattle.std.proofs.Math.Seq.{take-append-add, drop-append-add, drop-append_seam}
 use Rattle.std.proofs.Common.{length-take, length-drop}
 use Rattle.std.specs.List.{list_all}
-use Rattle.sim_waves.specs.declared.Transaction.{Transaction}
-use Rattle.sim_waves.specs.declared.DelayMode.{DelayMode}
-use Rattle.sim_waves.specs.declared.DelayMode.TheVariants as mode
+use Rattle.vhpi_values.specs.declared.driving.Transaction.{Transaction}
+use Rattle.vhpi_values.specs.declared.driving.DelayMode.{DelayMode}
+use Rattle.vhpi_values.specs.declared.driving.DelayMode.TheVariants as mode
 use Rattle.sim_waves.proofs.Marks.{rising_take}
 use Rattle.sim_waves.specs.Waveform.{is_rising, rises_above, marked, kept, earlier, is_before, without, assigned}
 

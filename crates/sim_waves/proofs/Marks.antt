@@ -8,7 +8,7 @@ use Rattle.std.proofs.lemmas.List.{take_more, take-append-drop, drop-drop}
 use Rattle.std.proofs.Math.Seq.{drop-cons}
 use Rattle.std.specs.List.{list_all}
 use Rattle.std.specs.Ordering.{int_eq}
-use Rattle.sim_waves.specs.declared.Transaction.{Transaction}
+use Rattle.vhpi_values.specs.declared.driving.Transaction.{Transaction}
 use Rattle.sim_waves.specs.Waveform.{is_rising, rises_above, marked, is_marked, is_next, earlier, has_value_of, is_before, is_from}
 
 -- with a last transaction before the time, all are before it

@@ -1,8 +1,8 @@
 use Rattle.std.specs.Prelude.{ℕ, ℤ, ◌-◌, List, [], ◌∷◌, ◌++◌, Bool, true, false, ◌&&◌, ◌||◌, nat_lt, nat_le, nat_eq, if◌then◌else◌, Option, Some, None, take, drop, ◌≤◌}
 use Rattle.std.specs.Ordering.{int_eq}
-use Rattle.sim_waves.specs.declared.Transaction.{Transaction}
-use Rattle.sim_waves.specs.declared.DelayMode.{DelayMode}
-use Rattle.sim_waves.specs.declared.DelayMode.TheVariants as mode
+use Rattle.vhpi_values.specs.declared.driving.Transaction.{Transaction}
+use Rattle.vhpi_values.specs.declared.driving.DelayMode.{DelayMode}
+use Rattle.vhpi_values.specs.declared.driving.DelayMode.TheVariants as mode
 
 -- a projected output waveform (14.7.2): the current value of the driver, and the transactions
 -- that are still to come, by time

@@ -2,7 +2,7 @@
 ghost use Rattle.std.specs.Prelude.{◌≡◌, ◌-◌, ◌≤◌, ◌<◌, ◌+◌, ℕ, List, ◌++◌, ◌∷◌, length, take, drop, IsTrue, true, false, OnOk, OnErr, slice_index_or};
 ghost use Rattle.std.specs.List.{list_all};
 ghost use Rattle.sim_waves.specs.Waveform.{is_rising, marked, earlier, assigned, has_value_of, is_before, is_from, without, IsWithinFirst};
-ghost use Rattle.sim_waves.specs.declared.Transaction.{Transaction};
+ghost use Rattle.vhpi_values.specs.declared.driving.Transaction.{Transaction};
 
 use crate::{DelayMode, Transaction};
 use std::alloc::AllocError;

@@ -7,21 +7,8 @@ mod edits;
 mod wave;
 
 pub use sim_memory::NoMemory;
+pub use vhpi_values::{DelayMode, Transaction};
 pub use wave::Wave;
-
-/// A transaction: the value that a driver is to have from a time on (14.7.2).
-#[derive(Clone, Copy, Debug, PartialEq, Eq)]
-pub struct Transaction {
-    pub value: i64,
-    pub time: u64,
-}
-
-/// How an assignment edits the projected output waveform (10.5.2.1).
-#[derive(Clone, Copy, Debug, PartialEq, Eq)]
-pub enum DelayMode {
-    Transport,
-    Inertial,
-}
 
 #[cfg(test)]
 mod tests {

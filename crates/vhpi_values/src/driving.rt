@@ -1,4 +1,4 @@
-/// How an assignment treats the transactions that are pending.
+/// How a signal assignment edits the projected output waveform (10.5.2.1).
 #[derive(Clone, Copy, Debug, PartialEq, Eq)]
 pub enum DelayMode {
     /// Each new transaction reaches the signal, however short its pulse is.
@@ -16,7 +16,7 @@ pub enum Severity {
     Failure,
 }
 
-/// A value that a driver takes at a time.
+/// A transaction: the value that a driver is to have from a time on (14.7.2).
 #[derive(Clone, Copy, Debug, PartialEq, Eq)]
 pub struct Transaction {
     /// The value of one element: a position, an integer or femtoseconds.

@@ -3,7 +3,7 @@ ghost use Rattle.vhpi_values.specs.declared.formats.FormatError.TheVariants as f
 ghost use Rattle.vhpi_values.specs.declared.formats.ValueError.TheVariants as value_error;
 
 use crate::sequence::Sequence;
-use crate::values::NoMemory;
+use sim_memory::NoMemory;
 
 /// The formats of values.
 #[derive(Clone, Copy, Debug, PartialEq, Eq)]

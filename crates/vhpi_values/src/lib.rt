@@ -18,6 +18,7 @@ pub use formats::{Format, FormatError, Formatted, ValueError};
 pub use printing::print_value;
 pub use reading::read_value;
 pub use sequence::Sequence;
+pub use sim_memory::NoMemory;
 pub use types::{Base, IndexRange, Literal, Ty};
-pub use values::{NoMemory, Val, default_of, fits};
+pub use values::{Val, default_of, fits};
 pub use writing::{format_value, goes_with};

@@ -10,8 +10,9 @@ ghost use Rattle.vhpi_values.specs.Formats.{first};
 ghost use Rattle.vhpi_values.specs.Printing.{is_printable, escaped, quoted, character_literal, literal_image, literal_at, scalar_image, array_image, image};
 
 use crate::types::{Base, Literal, Ty};
-use crate::values::{NoMemory, Val};
+use crate::values::Val;
 use crate::writing::{decimal, first_of, glyph, literals, string};
+use sim_memory::NoMemory;
 use std::alloc::Global;
 
 /// A value of the type as the journal prints it: a character literal such as `'1'`, another literal

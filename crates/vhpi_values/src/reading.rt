@@ -8,8 +8,9 @@ ghost use Rattle.vhpi_values.specs.Reading.{number, byte, character, natural_num
 
 use crate::formats::{Formatted, ValueError};
 use crate::types::Ty;
-use crate::values::{NoMemory, Val};
+use crate::values::Val;
 use crate::writing::{filled_places, goes_with};
+use sim_memory::NoMemory;
 use std::alloc::Global;
 
 /// The value that a formatted one stands for.

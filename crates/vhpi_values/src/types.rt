@@ -4,7 +4,7 @@ ghost use Rattle.vhpi_values.specs.Formats.{character_at};
 ghost use Rattle.vhpi_values.specs.Values.{lowest, highest, IsWithin};
 
 use crate::sequence::Sequence;
-use crate::values::NoMemory;
+use sim_memory::NoMemory;
 use std::alloc::Global;
 use std::marker::Model;
 

@@ -3,24 +3,9 @@ ghost use Rattle.vhpi_values.specs.Values.{Fits, default_value};
 
 use crate::sequence::Sequence;
 use crate::types::Ty;
-use std::alloc::{AllocError, AllocFailed, Global};
+use sim_memory::NoMemory;
+use std::alloc::Global;
 use std::marker::Model;
-
-/// There is no memory left.
-#[derive(Clone, Copy, Debug, PartialEq, Eq)]
-pub struct NoMemory;
-
-impl From<AllocError> for NoMemory {
-    fn from(_error: AllocError) -> NoMemory {
-        NoMemory
-    }
-}
-
-impl<T: Drop> From<AllocFailed<T>> for NoMemory {
-    fn from(_error: AllocFailed<T>) -> NoMemory {
-        NoMemory
-    }
-}
 
 /// A value, seen as the list of its elements from left to right: positions, integers or
 /// femtoseconds. A scalar has one.

@@ -9,8 +9,9 @@ ghost use Rattle.vhpi_values.specs.Formats.{pairs, content, object_content, firs
 use crate::formats::{Format, FormatError, Formatted};
 use crate::sequence::Sequence;
 use crate::types::{Base, Ty};
-use crate::values::{NoMemory, Val};
+use crate::values::Val;
 use itoa::Buffer;
+use sim_memory::NoMemory;
 use std::alloc::Global;
 
 /// The value in the format.

@@ -31,6 +31,7 @@ token k len = Some (record { kind = Some k; len = len })
 abbrev pub run_len : List ℕ → ℕ
 run_len text = prefix_len is_word_byte text
 
+-- a name is a reserved word or an identifier
 abbrev pub kind_of_word : Option Reserved → Kind
 kind_of_word None = kind.Identifier
 kind_of_word (Some word) = kind.Word word
@@ -82,6 +83,7 @@ text_end n (a ∷ b ∷ more) =
     if a == 34 then (if b == 34 then text_end (n + 2) more else Some (n + 1))
     else (if is_graphic a then text_end (n + 1) (b ∷ more) else None)
 
+-- a string literal of so many bytes, if it is ended
 abbrev pub text_to : Option ℕ → Option Found
 text_to None = None
 text_to (Some n) = token kind.Text n
@@ -92,6 +94,7 @@ block_end n [] = None
 block_end n (a ∷ []) = None
 block_end n (a ∷ b ∷ more) = if is_closing a b then Some (n + 2) else block_end (n + 1) (b ∷ more)
 
+-- a comment of so many bytes, if it is ended
 abbrev pub block_to : Option ℕ → Option Found
 block_to None = None
 block_to (Some n) = blank n
@@ -103,13 +106,16 @@ char_at (a ∷ []) = None
 char_at (a ∷ b ∷ []) = None
 char_at (a ∷ b ∷ c ∷ more) = if is_graphic b && c == 39 then token kind.Char 3 else None
 
+-- what begins with an apostrophe
 abbrev pub tick_at : Bool → List ℕ → Option Found
 tick_at after_name text = if after_name then token (kind.Delimiter delimiter.Tick) 1 else char_at text
 
+-- a delimiter of one byte, if it is one
 abbrev pub single_at : Option Delimiter → Option Found
 single_at None = None
 single_at (Some d) = token (kind.Delimiter d) 1
 
+-- a delimiter of two bytes, or else of the first of them, a
 abbrev pub double_at : Option Delimiter → ℕ → Option Found
 double_at None a = single_at (single a)
 double_at (Some d) a = token (kind.Delimiter d) 2

@@ -27,6 +27,7 @@ is_identifier name = begins is_ascii_alphabetic name && is_spaced Name name
 abbrev pub with_digit : ℕ → ℕ → ℕ
 with_digit n d = if d == 95 then n else 10 * n + (d - 48)
 
+-- the number that digits to base 10 say behind those that say n
 abbrev pub number_from : ℕ → List ℕ → ℕ
 number_from n [] = n
 number_from n (d ∷ digits) = number_from (with_digit n d) digits
@@ -39,6 +40,7 @@ number digits = number_from 0 digits
 abbrev pub is_small : ℕ → Bool
 is_small n = nat_lt n (2 ^ 128)
 
+-- the number, if it is so small
 abbrev pub small : ℕ → Option ℕ
 small n = if is_small n then Some n else None
 

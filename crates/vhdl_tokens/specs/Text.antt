@@ -27,7 +27,7 @@ pub record IsWord (bytes behind : List ℕ) : Type 0 where
   pub longest : begins is_word_byte behind ≡ false
   pub no_bits : bits_base (bytes ++ behind) ≡ None
 
--- a delimiter, the longest. An apostrophe is one only behind a name.
+-- A delimiter, the longest. An apostrophe is one only behind a name.
 abbrev pub IsDelimiter : Delimiter → Bool → List ℕ → List ℕ → Type 0
 IsDelimiter d after_name [] behind = ⊥
 IsDelimiter d after_name (a ∷ []) behind =
@@ -36,7 +36,8 @@ IsDelimiter d after_name (a ∷ b ∷ []) behind = double a b ≡ Some d
 IsDelimiter d after_name (a ∷ b ∷ c ∷ more) behind = ⊥
 
 -- These bytes are one piece of a text: a separator or comment, or a token of this kind, the longest.
--- Behind them stands the rest, and before them a name or none.
+-- `behind` is what follows them in the text, and `after_name` says that the token before them is an
+-- identifier, `)` or the reserved word `all`.
 abbrev pub IsPiece : Option Kind → Bool → List ℕ → List ℕ → Type 0
 IsPiece None after_name bytes behind = IsSeparator bytes ⊎ (IsLineComment bytes behind ⊎ IsBlockComment bytes)
 IsPiece (Some kind.Identifier) after_name bytes behind = IsWord bytes behind × (reserved_word bytes ≡ None)
@@ -55,7 +56,7 @@ is_name_end (kind.Word reserved.All) = true
 is_name_end (kind.Delimiter delimiter.RightParen) = true
 is_name_end _ = false
 
--- the same behind any piece: separators and comments change nothing
+-- whether the token before what follows a piece is such: separators and comments change nothing
 abbrev pub name_behind : Option Kind → Bool → Bool
 name_behind None after_name = after_name
 name_behind (Some k) after_name = is_name_end k
@@ -65,7 +66,8 @@ pub record Piece : Type 0 where
   pub kind : Option Kind
   pub bytes : List ℕ
 
--- The text is these pieces and then the rest, as a list that goes on behind a name or not.
+-- The text is these pieces and then the rest. `before` says that a name stands before the pieces, and
+-- `after` that one stands before the rest.
 abbrev pub Splits : List Piece → Bool → List ℕ → Bool → List ℕ → Type 0
 Splits [] before text after rest = (before ≡ after) × (text ≡ rest)
 Splits (piece ∷ pieces) before text after rest =

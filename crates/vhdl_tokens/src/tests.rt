@@ -1,7 +1,8 @@
 //! Texts with their tokens and faults, worked out by hand from the rules of docs/LANGUAGE.md.
 
 use crate::{
-    Kind, TEXT_LIMIT, Token, TokenError, bits, character, identifier, integer, string, tokens,
+    Kind, TEXT_LIMIT, Token, TokenError, bits, character, identifier, integer, one_reading,
+    one_value, span, string, tokens,
 };
 use std::alloc::{AllocError, Global};
 use std::test::Fail;
@@ -184,6 +185,7 @@ fn reads_names_and_numbers(rt: HostRuntime) -> Result<(), Fail> {
     assert_eq!(rt; integer(text, &whole(text)), None);
     assert_eq!(rt; character(b"'x'", &whole(b"'x'")), Some(b'x'));
     assert_eq!(rt; character(text, &whole(text)), None);
+    one_reading();
     Ok(())
 }
 
@@ -197,6 +199,14 @@ fn reads_strings_and_bits(rt: HostRuntime) -> Result<(), Fail> {
     let value = bits(alloc, digits, &whole(digits))?.ok_or("no bits")?;
     let want = [true, false, true, false, false, true, false, true];
     assert_eq!(rt; value.as_slice(), want.as_slice());
+    let part = Token {
+        kind: Kind::Identifier,
+        start: 2,
+        end: 9,
+        line: 1,
+    };
+    assert_eq!(rt; span(b"a b", &part), b"b".as_slice());
+    one_value();
     let octal = b"o\"6\"".as_slice();
     let value = bits(alloc, octal, &whole(octal))?.ok_or("no bits")?;
     assert_eq!(rt; value.as_slice(), [true, true, false].as_slice());

@@ -1,22 +1,19 @@
-use Rattle.std.proofs.Common.{◌≡◌, ℕ, ◌+◌, ◌-◌, ◌^◌, ◌<◌, ◌≤◌, min, List, ◌++◌, take, length, Option, Some, None, Result, Ok, Err, IsErrOf, IfSome, IsSomeAnd, refl, sym, ap, subst, ◌∙◌, ◌⊎◌, inl, inr, arith}
+use Rattle.std.proofs.Common.{◌≡◌, ℕ, ◌<◌, ◌≤◌, List, take, length, Option, Some, None, Result, Ok, Err, IfSome, IsSomeAnd, refl, sym, ap, subst, ◌∙◌, ◌⊎◌, inl, inr, arith}
 use Rattle.sim_design.specs.declared.Design.{Design}
 use Rattle.first_form.specs.FirstForm.{FirstForm}
-use Rattle.sim_journal.specs.declared.End.{End}
-use Rattle.sim_host.specs.Host.{Seen, Written, Files, TextHas, WroteFront, wrote, added, also_asked, Asks, StopsReading, IsTooLong, IsWhole, OnlyReads, HasReadCause, Rose, bytes_of, took, started}
+use Rattle.sim_host.specs.Host.{Seen, Written, Files, TextHas, WroteFront, wrote, added, also_asked, IsWhole, OnlyReads, Rose, bytes_of, took, started}
 use Rattle.sim_host.specs.declared.names.Asked.TheVariants.{Start}
 use Rattle.sim_host.specs.declared.channels.Channel.TheVariants as channel
-use Rattle.sim_host.specs.declared.errors.ReadError.{ReadError}
-use Rattle.sim_host.specs.declared.errors.ReadError.TheVariants as read
 use Rattle.sim_session.specs.declared.fault.SessionFault.{SessionFault}
 use Rattle.sim_session.specs.declared.fault.SessionFault.TheVariants as session
-use Rattle.sim_session.specs.Session.{Runs, RunWritten, FrontWritten, IsCut, HasSessionCause}
+use Rattle.sim_session.specs.Session.{Runs, FrontWritten, IsCut}
 use Rattle.sim_command.specs.declared.fault.CommandFault.{CommandFault}
 use Rattle.sim_command.specs.declared.fault.CommandFault.TheVariants as fault
 use Rattle.sim_command.specs.declared.Status.{Status}
 use Rattle.sim_command.specs.declared.Status.TheVariants as status
 use Rattle.sim_command.specs.Words.{Command, Run}
-use Rattle.sim_command.specs.Faults.{read_fault, session_fault}
-use Rattle.sim_command.specs.Outcome.{most_bytes, line_of, status_of, without_memory, IsNotBuilt, RunShown, FrontShown, IsShown, AsksOnce, IsRefused, Refuses, Interrupted, RunsDesign, Obeys, CauseOf, Said, SaidSome, IsDone, IsRefusal, IsUsage, IsNoMemory, IsHostFault, Outcome, AsksOnly, IsDoneWhereRun, IsRefusedWhereNot, Finishes, Settles}
+use Rattle.sim_command.specs.Faults.{session_fault}
+use Rattle.sim_command.specs.Outcome.{most_bytes, line_of, IsNotBuilt, RunShown, FrontShown, AsksOnce, IsRefused, Refuses, Interrupted, RunsDesign, Obeys, CauseOf, Said, SaidSome, Outcome, IsDoneWhereRun, IsRefusedWhereNot, Finishes, Settles}
 
 -- A fault of the session, over the file as it was read.
 

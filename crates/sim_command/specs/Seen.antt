@@ -1,4 +1,4 @@
-use Rattle.std.specs.Prelude.{◌≡◌, ℕ, Option, Some, None}
+use Rattle.std.specs.Prelude.{◌≡◌, Option, Some, None}
 use Rattle.sim_command.specs.declared.words.Command.{Command}
 use Rattle.sim_command.specs.declared.words.Command.TheVariants as variant
 use Rattle.sim_command.specs.Words as words

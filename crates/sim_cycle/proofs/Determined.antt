@@ -1,12 +1,12 @@
-use Rattle.std.proofs.Common.{◌≡◌, ℕ, List, [], ◌∷◌, ◌++◌, Option, Some, None, refl, sym, ap, subst, ◌∙◌, zero, suc, length}
+use Rattle.std.proofs.Common.{◌≡◌, ℕ, List, [], ◌∷◌, refl, sym, ap, subst, ◌∙◌, zero, suc, length}
 use Rattle.sim_design.specs.declared.Design.{Design}
 use Rattle.sim_journal.specs.declared.Entry.{Entry}
 use Rattle.sim_journal.specs.declared.Entry.TheVariants as entries
 use Rattle.sim_journal.specs.declared.End.{End}
-use Rattle.sim_cycle.specs.State.{State, events, first_state}
-use Rattle.sim_cycle.specs.Cycle.{Task, ComputeValues, RunProcesses, StartCycle, UpdateSignals, Does, Then, Tasks, Cycle, cycle, initialization}
+use Rattle.sim_cycle.specs.State.{State, events}
+use Rattle.sim_cycle.specs.Cycle.{Task, ComputeValues, RunProcesses, StartCycle, UpdateSignals, Does, Tasks, cycle}
 use Rattle.sim_cycle.specs.declared.Plan.{Plan}
-use Rattle.sim_cycle.specs.Run.{Leads, RestIn, IsRest, IsLeft, IsRun, end_at}
+use Rattle.sim_cycle.specs.Run.{RestIn, IsLeft}
 
 -- a task has one outcome
 pub does_one : (d : Design) (task : Task) (s t u : State) (es fs : List Entry) → Does d task s es t → Does d task s fs u → (es ≡ fs) × (t ≡ u)

@@ -1,14 +1,14 @@
-use Rattle.std.proofs.Common.{◌≡◌, ℕ, ◌+◌, ◌-◌, ◌≤◌, ◌<◌, List, [], ◌∷◌, ◌++◌, Option, Some, None, Bool, true, false, refl, sym, ap, subst, ◌∙◌, arith, append_assoc, append-nil, zero, suc, if◌then◌else◌, nat_le, length, map}
+use Rattle.std.proofs.Common.{◌≡◌, ℕ, ◌+◌, ◌≤◌, List, [], ◌∷◌, ◌++◌, Option, Some, None, true, refl, sym, ap, subst, ◌∙◌, arith, append_assoc, append-nil, zero, suc, nat_le, length}
 use Rattle.std.proofs.lemmas.Bool.{le-leb}
 use Rattle.sim_design.specs.declared.Design.{Design}
 use Rattle.sim_journal.specs.declared.Entry.{Entry}
 use Rattle.sim_journal.specs.declared.Entry.TheVariants as entries
 use Rattle.sim_journal.specs.declared.End.{End}
 use Rattle.sim_journal.specs.declared.End.TheVariants as ends
-use Rattle.sim_cycle.specs.State.{State, Next, Update, events, table, driving_value, all_ran, first_state}
-use Rattle.sim_cycle.specs.Cycle.{Task, ComputeValues, RunProcesses, StartCycle, UpdateSignals, Does, Then, Tasks, Cycle, cycle, initialization, moved, moved_to}
+use Rattle.sim_cycle.specs.State.{State, Next, Update, events, table, driving_value, all_ran}
+use Rattle.sim_cycle.specs.Cycle.{Task, ComputeValues, RunProcesses, StartCycle, UpdateSignals, Does, Tasks, Cycle, moved}
 use Rattle.sim_cycle.specs.declared.Plan.{Plan}
-use Rattle.sim_cycle.specs.Run.{Leads, RestIn, IsRest, IsLeft, IsRun, Part, end_at, end_by}
+use Rattle.sim_cycle.specs.Run.{IsRest, IsLeft, IsRun, Part, end_at, end_by}
 use Rattle.sim_cycle.specs.World.{World, first_world, Left, left_by, Extends, section, SectionDone, EndReached}
 
 -- a world is what follows itself

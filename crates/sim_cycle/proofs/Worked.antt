@@ -1,12 +1,9 @@
-use Rattle.std.proofs.Common.{◌≡◌, ℕ, ◌+◌, pos, refl, List, [], ◌∷◌, ◌++◌, suc, zero, map}
-use Rattle.sim_design.specs.declared.Design.{Design}
-use Rattle.sim_journal.specs.declared.Entry.{Entry}
+use Rattle.std.proofs.Common.{pos, refl, [], ◌∷◌, ◌++◌}
 use Rattle.sim_journal.specs.declared.Entry.TheVariants as entries
 use Rattle.sim_journal.specs.declared.End.TheVariants as ends
-use Rattle.sim_cycle.specs.State.{State, Update, all_ran, first_state, driving_value, table, events}
-use Rattle.sim_cycle.specs.Cycle.{Tasks, Cycle, Init, Then, cycle, initialization, moved}
-use Rattle.sim_cycle.specs.declared.Plan.{Plan}
-use Rattle.sim_cycle.specs.Run.{Leads, IsRun, IsRest, RestIn}
+use Rattle.sim_cycle.specs.State.{State, first_state}
+use Rattle.sim_cycle.specs.Cycle.{Cycle, Init, moved}
+use Rattle.sim_cycle.specs.Run.{IsRun, RestIn}
 use Rattle.sim_cycle.specs.Worked.{pulse, whole_pulse, short_pulse, first_cycle, second_cycle}
 
 ready : State
@@ -18,7 +15,7 @@ high = record { now = 2000000; delta = 0; cycle = 1; values = pos 1 ∷ []; wave
 low : State
 low = record { now = 5000000; delta = 0; cycle = 2; values = pos 0 ∷ []; waves = record { current = pos 0; pending = [] } ∷ [] }
 
-began : Init pulse [] ready
+began : Init pulse (first_state pulse) [] ready
 unfolding ready
 began = record { front = []; back = []; mid = first_state pulse; whole = refl; first = (refl, refl); second = record { front = []; back = []; mid = ready; whole = refl; first = (refl, refl); second = (refl, refl) } }
 

@@ -1,8 +1,8 @@
-use Rattle.std.specs.Prelude.{◌≡◌, ℕ, ◌+◌, List, [], ◌∷◌, ◌++◌, Option, Some, None, if◌then◌else◌, nat_eq, length, map, unwrap_or}
+use Rattle.std.specs.Prelude.{◌≡◌, ℕ, ◌+◌, List, [], ◌∷◌, ◌++◌, if◌then◌else◌, nat_eq, length, unwrap_or}
 use Rattle.sim_design.specs.declared.Design.{Design}
 use Rattle.sim_journal.specs.declared.Entry.{Entry}
 use Rattle.sim_journal.specs.declared.Entry.TheVariants as entries
-use Rattle.sim_cycle.specs.State.{State, Next, Update, events, table, driving_value, all_ran, first_state}
+use Rattle.sim_cycle.specs.State.{State, Next, Update, events, table, driving_value, all_ran}
 
 -- what is done in the initialization (14.7.5.2) and in a simulation cycle (14.7.5.3), step by step
 pub data Task : Type 0 where
@@ -49,9 +49,9 @@ abbrev pub Tasks : Design → List Task → State → List Entry → State → T
 Tasks d [] s es t = (es ≡ []) × (t ≡ s)
 Tasks d (k ∷ ks) s es t = Then (Does d k) (Tasks d ks) s es t
 
--- the initialization, and one simulation cycle
-abbrev pub Init : Design → List Entry → State → Type 0
-Init d es t = Tasks d initialization (first_state d) es t
+-- the initialization, from the state in which a run begins, and one simulation cycle
+abbrev pub Init : Design → State → List Entry → State → Type 0
+Init d s es t = Tasks d initialization s es t
 
 abbrev pub Cycle : Design → State → List Entry → State → Type 0
 Cycle d s es t = Tasks d cycle s es t

@@ -6,7 +6,7 @@ use Rattle.sim_journal.specs.declared.End.{End}
 use Rattle.sim_journal.specs.declared.End.TheVariants as ends
 use Rattle.sim_cycle.specs.declared.Plan.{Plan}
 use Rattle.sim_cycle.specs.State.{State, Next, first_state}
-use Rattle.sim_cycle.specs.Cycle.{Task, Tasks, Cycle, initialization}
+use Rattle.sim_cycle.specs.Cycle.{Task, Tasks, Cycle, Init}
 
 -- the end that applies between two cycles, if one does; the first of them in this order
 abbrev pub end_by : Plan → State → Option ℕ → Option End
@@ -40,7 +40,7 @@ IsLeft d plan ks s es end = Leads (Tasks d ks) (λ t fs. IsRest d plan t fs end)
 
 -- a whole run of a design writes these entries and ends so: the initialization, and then cycles
 abbrev pub IsRun : Design → Plan → List Entry → End → Type 0
-IsRun d plan es end = IsLeft d plan initialization (first_state d) es end
+IsRun d plan es end = Leads (Init d) (λ t fs. IsRest d plan t fs end) (first_state d) es
 
 -- the entries are the first ones of a run
 abbrev pub Part : Design → Plan → List Entry → Type 0

@@ -2,10 +2,8 @@ use Rattle.std.specs.Prelude.{◌≡◌, ◌++◌, pos, List, [], ◌∷◌, cod
 use Rattle.sim_design.specs.declared.Design.{Design}
 use Rattle.sim_journal.specs.declared.Entry.{Entry}
 use Rattle.sim_journal.specs.declared.Entry.TheVariants as entries
-use Rattle.sim_journal.specs.declared.End.{End}
 use Rattle.sim_journal.specs.declared.End.TheVariants as ends
 use Rattle.sim_journal.specs.Print.{Print}
-use Rattle.sim_cycle.specs.declared.Plan.{Plan}
 use Rattle.sim_cycle.specs.Run.{IsRun}
 
 -- a signal s that is '1' after 2 ns and '0' after 5 ns

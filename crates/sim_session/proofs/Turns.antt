@@ -1,20 +1,19 @@
-use Rattle.std.proofs.Common.{◌≡◌, ℕ, ◌<◌, List, [], ◌∷◌, ◌++◌, Option, Some, None, Result, Ok, Err, IsErrAnd, refl, sym, ap, subst, ◌∙◌, ◌⊎◌, inl, inr, append-nil, append_assoc}
+use Rattle.std.proofs.Common.{◌≡◌, ℕ, List, [], ◌∷◌, ◌++◌, Option, Some, None, Result, Ok, Err, IsErrAnd, refl, sym, ap, subst, ◌∙◌, ◌⊎◌, inl, inr, append-nil, append_assoc}
 use Rattle.sim_design.specs.declared.Design.{Design}
 use Rattle.sim_journal.specs.declared.Entry.{Entry}
 use Rattle.sim_journal.specs.declared.Entry.TheVariants as entries
 use Rattle.sim_journal.specs.declared.End.{End}
 use Rattle.sim_journal.specs.Print.{Print, line}
 use Rattle.sim_cycle.specs.declared.Plan.{Plan}
-use Rattle.sim_cycle.specs.Run.{IsRun, Part}
-use Rattle.sim_cycle.specs.World.{World, first_world, Left, left_by, Extends, SectionDone, EndReached, sections_left}
+use Rattle.sim_cycle.specs.World.{World, first_world, left_by, Extends, EndReached}
 use Rattle.sim_cycle.proofs.Moves.{extends_same, extends_more, section_extends, end_extends, run_of, part_of}
-use Rattle.sim_host.specs.Host.{Seen, wrote, Writes, WroteFront}
+use Rattle.sim_host.specs.Host.{Seen, wrote, WroteFront}
 use Rattle.sim_host.specs.declared.channels.Channel.TheVariants as channel
 use Rattle.sim_host.proofs.Growth.{wrote-wrote, wrote-nothing, front_of}
 use Rattle.vhpi_kernel.specs.declared.Step.{Step}
 use Rattle.vhpi_kernel.specs.declared.Step.TheVariants as steps
 use Rattle.vhpi_kernel.specs.Advance.{Advances, Falls, HasEnded}
-use Rattle.sim_session.specs.Turn.{IsAfter, Turned, TurnCut, Turns, SoFar, AllWritten, PartWritten, RunsFrom}
+use Rattle.sim_session.specs.Turn.{IsAfter, Turned, TurnCut, Turns, AllWritten, PartWritten, RunsFrom}
 use Rattle.sim_session.specs.declared.fault.SessionFault.{SessionFault}
 use Rattle.sim_session.specs.declared.fault.SessionFault.TheVariants as fault
 use Rattle.sim_session.specs.Faults.{fault_of_host, fault_of_form}
@@ -25,6 +24,14 @@ use Rattle.first_form.specs.FirstForm.{FirstForm}
 use Rattle.first_form.specs.declared.fault.FormError.{FormError}
 use Rattle.first_form.specs.declared.fault.FormError.TheVariants as form
 use Rattle.std.proofs.lemmas.Result.{err_from_is_err_and}
+
+-- all entries of a run so far were written
+pub record SoFar (design : Design) (plan : Plan) (world : World) (was now : Seen) : Type 0 where
+  pub entries : List Entry
+  pub extends : Extends (first_world design plan) entries world
+  pub same : world.design ≡ design
+  pub drained : world.journal ≡ []
+  pub written : now ≡ wrote channel.Out (Print design entries) was
 
 -- the lines of two lists of entries
 pub Print-append : (d : Design) (xs ys : List Entry) → Print d (xs ++ ys) ≡ Print d xs ++ Print d ys

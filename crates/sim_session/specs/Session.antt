@@ -1,4 +1,4 @@
-use Rattle.std.specs.Prelude.{◌≡◌, ℕ, ◌≤◌, ◌^◌, List, [], ◌++◌, Result, Ok, Err, OnOk, IsErrOf, ◌⊎◌}
+use Rattle.std.specs.Prelude.{◌≡◌, ℕ, ◌≤◌, List, ◌++◌, Result, Ok, Err, OnOk, IsErrOf, ◌⊎◌}
 use Rattle.sim_design.specs.declared.Design.{Design}
 use Rattle.first_form.specs.FirstForm.{FirstForm}
 use Rattle.sim_journal.specs.declared.Entry.{Entry}

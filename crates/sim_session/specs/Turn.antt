@@ -5,7 +5,7 @@ use Rattle.sim_journal.specs.declared.End.{End}
 use Rattle.sim_journal.specs.Print.{Print}
 use Rattle.sim_cycle.specs.declared.Plan.{Plan}
 use Rattle.sim_cycle.specs.Run.{IsRun, Part}
-use Rattle.sim_cycle.specs.World.{World, first_world, Extends, sections_left}
+use Rattle.sim_cycle.specs.World.{World, Extends, sections_left}
 use Rattle.sim_host.specs.Host.{Seen, wrote}
 use Rattle.sim_host.specs.declared.channels.Channel.TheVariants as channel
 use Rattle.vhpi_kernel.specs.declared.Step.{Step}
@@ -41,14 +41,6 @@ abbrev pub Turns : Result Step SessionFault → World → World → Seen → See
 Turns (Ok step) old new was now = Turned step old new was now
 Turns (Err fault.NotBuilt) old new was now = ⊥
 Turns (Err e) old new was now = TurnCut old was now
-
--- all entries of a run so far were written
-pub record SoFar (design : Design) (plan : Plan) (world : World) (was now : Seen) : Type 0 where
-  pub entries : List Entry
-  pub extends : Extends (first_world design plan) entries world
-  pub same : world.design ≡ design
-  pub drained : world.journal ≡ []
-  pub written : now ≡ wrote channel.Out (Print design entries) was
 
 -- what a run that begins comes to: all of its lines were written, or a front of the lines of its
 -- first part

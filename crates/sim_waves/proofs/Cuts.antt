@@ -1,6 +1,6 @@
-use Rattle.std.proofs.Common.{◌≡◌, ℕ, ◌+◌, ◌-◌, ◌<◌, ◌≤◌, List, [], ◌∷◌, ◌++◌, length, take, drop, get_or, Bool, true, false, IsTrue, nat_lt, refl, sym, ap, ◌∙◌, arith, ◌&&◌, append_assoc, subst, zero, suc, add-suc}
-use Rattle.std.proofs.lemmas.Bool.{and_parts, ltb-true, lt-ltb, le-ltb}
-use Rattle.std.proofs.lemmas.List.{take-append-drop, drop-drop, take-append-le, drop-append-le, drop_at}
+use Rattle.std.proofs.Common.{◌≡◌, ℕ, ◌+◌, ◌<◌, ◌≤◌, List, [], ◌∷◌, ◌++◌, length, take, drop, get_or, true, IsTrue, nat_lt, refl, sym, ap, ◌∙◌, arith, append_assoc, subst, zero, suc}
+use Rattle.std.proofs.lemmas.Bool.{and_parts, ltb-true, lt-ltb}
+use Rattle.std.proofs.lemmas.List.{take-append-drop, take-append-le, drop-append-le, drop_at}
 use Rattle.std.proofs.Math.Seq.{take-append-add, drop-append-add, drop-append_seam}
 use Rattle.std.proofs.Common.{length-take, length-drop}
 use Rattle.std.specs.List.{list_all}
@@ -8,7 +8,7 @@ use Rattle.vhpi_values.specs.declared.driving.Transaction.{Transaction}
 use Rattle.vhpi_values.specs.declared.driving.DelayMode.{DelayMode}
 use Rattle.vhpi_values.specs.declared.driving.DelayMode.TheVariants as mode
 use Rattle.sim_waves.proofs.Marks.{rising_take}
-use Rattle.sim_waves.specs.Waveform.{is_rising, rises_above, marked, kept, earlier, is_before, without, assigned}
+use Rattle.sim_waves.specs.Waveform.{is_rising, rises_above, marked, kept, is_before, without, assigned}
 
 -- the cuts of transport delay delete nothing before the new transactions
 pub transport_cuts : (m : DelayMode) (limit : ℕ) (early pending new : List Transaction) (k : ℕ) → m ≡ mode.Transport → early ≡ take k pending → kept m limit early new ++ new ≡ without k k (take k pending ++ new)

@@ -1,13 +1,11 @@
-use Rattle.std.proofs.Common.{◌≡◌, ℕ, ◌+◌, ◌<◌, ◌≤◌, List, [], ◌∷◌, ◌++◌, length, Bool, true, false, Option, Some, None, refl, sym, ap, subst, ◌∙◌, arith, append_assoc, append-nil, if◌then◌else◌, nat_le, unwrap_or}
+use Rattle.std.proofs.Common.{◌≡◌, ℕ, ◌<◌, List, [], ◌∷◌, ◌++◌, length, false, Option, Some, None, refl, sym, ap, subst, ◌∙◌, append_assoc, append-nil, nat_le, unwrap_or}
 use Rattle.std.proofs.lemmas.Bool.{lt-leb}
 use Rattle.sim_design.specs.declared.Design.{Design}
 use Rattle.sim_journal.specs.declared.Entry.{Entry}
-use Rattle.sim_journal.specs.declared.Entry.TheVariants as entries
-use Rattle.sim_journal.specs.declared.End.{End}
 use Rattle.sim_cycle.specs.declared.Plan.{Plan}
 use Rattle.sim_cycle.specs.State.{State, Next, Update, events}
 use Rattle.sim_cycle.specs.Cycle.{Task, Tasks, moved_to, moved, cycle}
-use Rattle.sim_cycle.specs.Run.{end_at, end_by}
+use Rattle.sim_cycle.specs.Run.{end_at}
 use Rattle.sim_cycle.specs.World.{World, SectionDone, section}
 use Rattle.vhpi_kernel.specs.Kernel.{time_entry}
 

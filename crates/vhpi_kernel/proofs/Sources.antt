@@ -1,4 +1,4 @@
-use Rattle.std.proofs.Common.{◌≡◌, ℕ, ℤ, pos, ◌+◌, ◌<◌, ◌≤◌, List, [], ◌∷◌, ◌++◌, length, take, get_or, map, Bool, true, false, Option, Some, None, refl, sym, ap, subst, ◌∙◌, arith, zero, suc, if◌then◌else◌, nat_eq, ◌||◌, eqb-true, length-take}
+use Rattle.std.proofs.Common.{◌≡◌, ℕ, ℤ, pos, ◌+◌, ◌<◌, List, [], ◌∷◌, ◌++◌, length, take, get_or, map, Bool, true, false, Option, Some, None, refl, sym, subst, ◌∙◌, arith, zero, suc, if◌then◌else◌, nat_eq, ◌||◌, eqb-true, length-take}
 use Rattle.std.proofs.Math.ListN.{get_or-map}
 use Rattle.std.proofs.Math.Bool.{or-false}
 use Rattle.std.specs.List.{list_any}
@@ -7,9 +7,9 @@ use Rattle.std.proofs.lemmas.List.{take_more}
 use Rattle.sim_design.specs.declared.Design.{Design}
 use Rattle.sim_design.specs.declared.Process.{Process}
 use Rattle.sim_design.specs.Design.{is_target, have_own_targets}
-use Rattle.sim_waves.specs.Waveform.{Waveform, is_active, at_time}
-use Rattle.sim_cycle.specs.State.{State, sources, value_of, driving_value, is_sourced, updated_value, value_at, default_at}
-use Rattle.vhpi_kernel.specs.Index.{driver_of, noted_at, wave_at, value_by, active_by, IsIndex}
+use Rattle.sim_waves.specs.Waveform.{Waveform, is_active}
+use Rattle.sim_cycle.specs.State.{sources, value_of, driving_value, is_sourced, default_at}
+use Rattle.vhpi_kernel.specs.Index.{driver_of, noted_at, wave_at, value_by, active_by}
 
 noted_step : (c : Bool) (n : ℕ) → option_map suc (if◌then◌else◌ {A = Option ℕ} c (Some n) None) ≡ if◌then◌else◌ {A = Option ℕ} c (Some (suc n)) None
 noted_step true n = refl

@@ -1,9 +1,7 @@
-use Rattle.std.proofs.Common.{◌≡◌, ℕ, ℤ, pos, ◌+◌, ◌<◌, ◌≤◌, List, [], ◌∷◌, ◌++◌, length, get_or, refl, sym, ap, subst, ◌∙◌, arith, append_assoc, add-one, zero, suc, length-append, if◌then◌else◌, ◌⊎◌, inl, inr}
+use Rattle.std.proofs.Common.{◌≡◌, ℕ, ℤ, pos, ◌+◌, ◌<◌, ◌≤◌, List, [], ◌∷◌, ◌++◌, length, refl, ap, subst, ◌∙◌, arith, append_assoc, add-one, zero, suc, length-append, ◌⊎◌, inl, inr}
 use Rattle.std.proofs.Math.ListN.{get_or-append}
 use Rattle.std.proofs.lemmas.Bool.{cases_lt}
-use Rattle.std.specs.Ordering.{int_eq}
 use Rattle.sim_journal.specs.declared.Entry.{Entry}
-use Rattle.sim_journal.specs.declared.Entry.TheVariants as entries
 use Rattle.sim_cycle.specs.State.{table, value_at, events, event_of}
 use Rattle.vhpi_kernel.specs.Index.{event_to, events_by}
 

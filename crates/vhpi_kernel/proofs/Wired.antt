@@ -1,18 +1,17 @@
-use Rattle.std.proofs.Common.{◌≡◌, ℕ, ℤ, pos, ◌<◌, ◌≤◌, List, [], ◌∷◌, ◌++◌, length, map, Bool, true, false, Option, Some, None, refl, sym, ap, subst, ◌∙◌, arith, zero, suc, if◌then◌else◌, nat_eq, nat_lt, ◌&&◌, slice_index_or, slice_get}
+use Rattle.std.proofs.Common.{◌≡◌, ℕ, ℤ, pos, ◌<◌, List, [], ◌∷◌, length, map, Bool, true, false, Option, Some, None, refl, sym, ap, subst, ◌∙◌, arith, zero, suc, if◌then◌else◌, nat_eq, nat_lt, ◌&&◌, slice_index_or}
 use Rattle.std.proofs.lemmas.Bool.{and_parts}
 use Rattle.std.proofs.lemmas.List.{length-map}
 use Rattle.std.specs.List.{list_all}
 use Rattle.std.specs.Option.{option_map}
 use Rattle.sim_design.specs.declared.Design.{Design}
 use Rattle.sim_design.specs.declared.Process.{Process}
-use Rattle.sim_design.specs.Design.{is_sound, is_process, is_waveform, have_own_targets, IsSound}
+use Rattle.sim_design.specs.Design.{is_process, is_waveform, have_own_targets, IsSound}
 use Rattle.sim_waves.specs.Waveform.{Waveform, is_active, at_time}
-use Rattle.sim_journal.specs.declared.Entry.{Entry}
-use Rattle.sim_cycle.specs.State.{table, driving_value, updated_value, default_at, value_at, is_sourced, events}
-use Rattle.vhpi_kernel.specs.Index.{driver_of, IsIndex, IsWithin, value_by, active_by, indexed_value, updated_by, updated_value_by, events_by}
+use Rattle.sim_cycle.specs.State.{table, driving_value, updated_value, default_at, value_at, events}
+use Rattle.vhpi_kernel.specs.Index.{driver_of, IsWithin, value_by, active_by, indexed_value, updated_value_by, events_by}
 use Rattle.vhpi_kernel.specs.Kernel.{IsWired}
 use Rattle.vhpi_kernel.proofs.Sources.{driving_is, is_sourced_is}
-use Rattle.vhpi_kernel.proofs.Tables.{same_table, length-table, same_events}
+use Rattle.vhpi_kernel.proofs.Tables.{same_table, same_events}
 
 pub own_targets : (d : Design) → IsSound d → have_own_targets d.processes ≡ true
 own_targets d sound = (and_parts _ (have_own_targets d.processes) sound).1

@@ -1,4 +1,4 @@
-use Rattle.std.specs.Prelude.{◌≡◌, ◌≤◌, ℕ, ℤ, List, [], Bool, true, false, Option, None, if◌then◌else◌, length}
+use Rattle.std.specs.Prelude.{◌≡◌, ◌≤◌, ℕ, ℤ, List, [], Bool, true, false, Option, length}
 use Rattle.sim_design.specs.declared.Design.{Design}
 use Rattle.sim_design.specs.Design.{IsSound, IsNumbered}
 use Rattle.sim_waves.specs.Waveform.{Waveform}

@@ -1,5 +1,5 @@
 use Rattle.std.specs.Fmt.{digits}
-use Rattle.std.proofs.Common.{refl, [], ◌∷◌, suc, zero}
+use Rattle.std.proofs.Common.{refl}
 use Rattle.sim_cycle.proofs.pulse_runs.Goals as goal
 use Rattle.sim_cycle.proofs.Worked.{whole, short}
 

@@ -1,4 +1,3 @@
-use Rattle.sim_command.specs.Words.{command}
 use Rattle.sim_command.proofs.Top.{outcome}
 use Rattle.sim_command.proofs.obey.obey_and_settle.Goals as goal
 

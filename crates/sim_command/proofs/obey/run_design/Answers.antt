@@ -1,4 +1,3 @@
-use Rattle.std.proofs.Common.{Err}
 use Rattle.sim_command.proofs.Top.{session_cut}
 use Rattle.sim_command.proofs.obey.run_design.Goals as goal
 

@@ -1,6 +1,6 @@
 use Rattle.std.proofs.Common.{◌≡◌}
 use Rattle.sim_cycle.specs.World.{sections_left}
-use Rattle.sim_session.specs.Turn.{SoFar}
+use Rattle.sim_session.proofs.Turns.{SoFar}
 use Rattle.sim_session.proofs.running.run.Given as goal
 
 abbrev pub invariant-sections : goal.invariant-sections

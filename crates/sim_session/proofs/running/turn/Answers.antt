@@ -1,5 +1,4 @@
-use Rattle.std.proofs.Common.{refl, sym, ◌∙◌, ap}
-use Rattle.sim_journal.specs.Print.{Print}
+use Rattle.std.proofs.Common.{refl, ◌∙◌}
 use Rattle.sim_session.proofs.Turns.{nothing_cut, turns_memory, turns_host, turn_cut, turned}
 use Rattle.sim_session.proofs.running.turn.Goals as goal
 

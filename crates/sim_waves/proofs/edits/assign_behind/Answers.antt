@@ -1,4 +1,4 @@
-use Rattle.std.proofs.Common.{arith, sym, ap, drop, ◌∙◌, length}
+use Rattle.std.proofs.Common.{sym, ap, drop, ◌∙◌, length}
 use Rattle.sim_waves.proofs.Cuts.{assigned_by_cuts, rising_by_cuts}
 use Rattle.sim_waves.proofs.edits.assign_behind.Goals as goal
 

@@ -1,4 +1,4 @@
-use Rattle.std.proofs.Common.{◌∙◌, ap, sym, ℕ, ◌<◌, ◌≡◌, length, arith}
+use Rattle.std.proofs.Common.{◌∙◌, ap, sym, ◌<◌, ◌≡◌, length, arith}
 use Rattle.vhpi_kernel.specs.Index.{noted_at}
 use Rattle.vhpi_kernel.proofs.Sources.{driver_more}
 use Rattle.vhpi_kernel.proofs.index.index_drivers.Goals as goal

@@ -1,5 +1,5 @@
-use Rattle.std.proofs.Common.{◌≡◌, ◌<◌, ℕ, length, take, None, slice_index_or}
-use Rattle.vhpi_kernel.specs.Index.{driver_of, IsIndex}
+use Rattle.std.proofs.Common.{take}
+use Rattle.vhpi_kernel.specs.Index.{IsIndex}
 use Rattle.vhpi_kernel.proofs.index.index_drivers.Given as goal
 
 abbrev pub invariant-loop-number : goal.invariant-loop-number

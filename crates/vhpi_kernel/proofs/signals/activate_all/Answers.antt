@@ -1,4 +1,4 @@
-use Rattle.std.proofs.Common.{◌∙◌, ◌<◌, ◌++◌, ◌∷◌, [], ap, arith, length}
+use Rattle.std.proofs.Common.{◌<◌, arith, length}
 use Rattle.vhpi_kernel.proofs.Parts.{advanced_more, active_more, advanced_done}
 use Rattle.vhpi_kernel.proofs.signals.activate_all.Goals as goal
 

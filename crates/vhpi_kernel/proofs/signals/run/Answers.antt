@@ -1,4 +1,3 @@
-use Rattle.std.proofs.Common.{◌∙◌, sym}
 use Rattle.vhpi_kernel.proofs.Waveforms.{rising_transactions}
 use Rattle.vhpi_kernel.proofs.signals.run.Goals as goal
 

@@ -1,6 +1,5 @@
-use Rattle.std.proofs.Common.{◌≡◌, ◌<◌, ◌+◌, drop, true, length, arith, get_or, ◌∙◌, ap}
+use Rattle.std.proofs.Common.{◌<◌, length, arith, get_or, ◌∙◌, ap}
 use Rattle.sim_cycle.specs.State.{ran}
-use Rattle.std.proofs.lemmas.Bool.{and_parts}
 use Rattle.vhpi_kernel.proofs.Parts.{ran_more, ran_done, rest_all}
 use Rattle.vhpi_kernel.proofs.signals.run_all.Goals as goal
 

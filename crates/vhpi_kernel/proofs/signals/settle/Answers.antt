@@ -1,4 +1,4 @@
-use Rattle.std.proofs.Common.{arith, ap, length, ◌<◌, ◌≡◌, ◌+◌, ◌∙◌, ◌++◌, ◌∷◌, [], length-append, refl}
+use Rattle.std.proofs.Common.{refl}
 use Rattle.vhpi_kernel.specs.Index.{updated_value_by}
 use Rattle.vhpi_kernel.proofs.Tables.{settle_step, settled_within}
 use Rattle.vhpi_kernel.proofs.signals.settle.Goals as goal

@@ -1,5 +1,4 @@
-use Rattle.std.proofs.Common.{refl, ap, length, ◌∙◌, ◌++◌, sym, arith}
-use Rattle.sim_cycle.specs.State.{table, updated_value}
+use Rattle.std.proofs.Common.{ap, length, ◌∙◌, ◌++◌, arith}
 use Rattle.vhpi_kernel.specs.Index.{updated_value_by}
 use Rattle.vhpi_kernel.proofs.Wired.{drivers_within, updated_same, events_same}
 use Rattle.vhpi_kernel.proofs.Tables.{length-table}

@@ -176,6 +176,30 @@ fn formats_are_read(rt: HostRuntime) -> Result<(), Fail> {
     Ok(())
 }
 
+const NUMBERS: [(&str, Formatted, i64); 5] = [
+    ("own", Formatted::Enum(2), 2),
+    ("integer", Formatted::Int(-42), -42),
+    ("logic", Formatted::Logic(8), 8),
+    ("character", Formatted::Char(255), 255),
+    ("time", Formatted::Time(2000000), 2000000),
+];
+
+#[test]
+fn numbers_are_read(rt: HostRuntime) -> Result<(), Fail> {
+    for (name, from, want) in NUMBERS {
+        let ty = type_of(rt.alloc(), name, 1)?;
+        let val = read_value(rt.alloc(), &ty, &from)?;
+        assert_eq!(rt; val.as_slice(), [want].as_slice(), "{name}");
+    }
+    let ty = type_of(rt.alloc(), "integers", 2)?;
+    let numbers = Sequence::from_vec(Vec::from_slice(rt.alloc(), &[7, -8])?);
+    let val = read_value(rt.alloc(), &ty, &Formatted::IntVec(numbers))?;
+    assert_eq!(rt; val.as_slice(), [7, -8].as_slice());
+    let error = read_value(rt.alloc(), &ty, &Formatted::Int(7)).err();
+    assert_eq!(rt; error, Some(ValueError::BadFormat));
+    Ok(())
+}
+
 const REFUSED: [(&str, usize, Format, &str, usize); 15] = [
     ("bits", 3, Format::BinStr, "012", 2),
     ("bits", 3, Format::BinStr, "01", 2),

@@ -1,0 +1,4 @@
+pub mod Completes
+pub mod Laws
+pub mod Sounds
+mod Turns

@@ -1,0 +1,15 @@
+mod BareNames
+mod Bodies
+mod Completes
+mod ConcurrentCompletes
+mod Cut
+mod Deep
+mod Follow
+mod InstanceCompletes
+mod Judged
+mod Laws
+mod Parsed
+mod Sounds
+mod Turns
+mod UnitCompletes
+mod UnitSounds

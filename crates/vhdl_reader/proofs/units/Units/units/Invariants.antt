@@ -1,0 +1,8 @@
+use Rattle.std.proofs.Common.{◌≡◌, ◌-◌}
+use Rattle.vhdl_reader.specs.Reading.{begins_unit}
+use Rattle.vhdl_cursor.specs.Steps.{many_from}
+use Rattle.vhdl_reader.specs.Reading as spec
+use Rattle.vhdl_reader.proofs.units.Units.units.Given as goal
+
+abbrev pub invariant-turns : goal.invariant-turns
+invariant-turns l = spec.units l.self.bound l.fn.found l.fn.tokens ≡ many_from (l._turn-end - l._turn) begins_unit (spec.unit l.self.bound) l.found l.tokens

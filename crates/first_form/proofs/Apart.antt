@@ -8,7 +8,7 @@ use Rattle.std.specs.List.{list_any}
 use Rattle.std.specs.Str.{bytes_eq}
 use Rattle.sim_design.specs.declared.Process.{Process}
 use Rattle.sim_design.specs.Design.{have_own_targets}
-use Rattle.first_form.specs.Tree.{are_distinct}
+use Rattle.first_form.specs.Form.{are_distinct}
 
 abbrev pub are_apart : {X : Type 0} → (X → X → Bool) → List X → Bool
 are_apart clash [] = true

@@ -1,9 +1,6 @@
 pub mod Apart
+pub mod Each
 pub mod Laws
-pub mod Many
 pub mod Names
-pub mod Productions
 pub mod Targets
-pub mod Times
-pub mod TokenLoop
 pub mod Waves

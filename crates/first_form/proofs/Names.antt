@@ -8,7 +8,7 @@ use Rattle.std.specs.List.{list_any}
 use Rattle.std.specs.Str.{bytes_eq}
 use Rattle.first_form.specs.declared.fault.FormError.{FormError}
 use Rattle.first_form.specs.declared.fault.FormError.TheVariants.{NotBuilt, NoMemory}
-use Rattle.first_form.specs.Tree.{number_in, are_distinct}
+use Rattle.first_form.specs.Form.{number_in, are_distinct}
 use Rattle.first_form.specs.Building.{Numbers, number_at, AddsNumber, AreNumbered}
 use Rattle.first_form.proofs.Apart.{are_apart, are_distinct-apart, are_apart-push, are_apart-clash, split, take_next}
 

@@ -10,9 +10,9 @@ use Rattle.sim_design.specs.declared.Process.{Process}
 use Rattle.sim_design.specs.Design.{is_target, have_own_targets}
 use Rattle.first_form.specs.declared.fault.FormError.{FormError}
 use Rattle.first_form.specs.declared.fault.FormError.TheVariants.{NotBuilt, NoMemory}
-use Rattle.first_form.specs.declared.tree.Assignment.{Assignment}
-use Rattle.first_form.specs.Tree.{number_in, process_of, waveform_of, is_wave, is_assignment}
-use Rattle.first_form.specs.Reading.{Fails}
+use Rattle.first_form.specs.declared.form.Assignment.{Assignment}
+use Rattle.first_form.specs.Form.{number_in, process_of, waveform_of, is_wave, is_assignment}
+use Rattle.first_form.specs.Answers.{Fails}
 use Rattle.first_form.specs.Building.{process_with, processes_from}
 use Rattle.first_form.proofs.Apart.{are_apart, same_target, have_own_targets-apart, are_apart-push, are_apart-clash, split, take_next}
 use Rattle.first_form.proofs.Names.{number_in-within}
@@ -27,13 +27,13 @@ pub made : (signals : List (List ℕ)) (a : Assignment) (p : Process) (found : O
     → process_with found a ≡ Some p → IsMade signals a p
 made signals a p None e h = absurd (none-some p h)
 made signals a p (Some n) e h =
-    let q : Process = record { instance = 0; target = n; waveform = waveform_of a } in
-    let g = cond_some (is_wave a) q p h in
+    let q : Process = record { instance = 0; target = n; waveform = waveform_of a.elements } in
+    let g = cond_some (is_wave a.elements) q p h in
     let at : n ≡ p.target = ap (λ p. p.target) g.1 in
     let below = number_in-within signals a.target n (sym e) in
     record {
       right = rw (sym e, g.0) refl;
-      same = ap (λ o. record { instance = 0; target = unwrap_or o 0; waveform = waveform_of a }) (sym e) ∙ g.1;
+      same = ap (λ o. record { instance = 0; target = unwrap_or o 0; waveform = waveform_of a.elements }) (sym e) ∙ g.1;
       within = omega arith;
     }
 
@@ -44,7 +44,7 @@ refused false p h = refl
 not_made : (signals : List (List ℕ)) (a : Assignment) (found : Option ℕ) → found ≡ number_in signals a.target
     → process_with found a ≡ None → is_assignment signals a ≡ false
 not_made signals a None e h = rw (sym e) refl
-not_made signals a (Some n) e h = rw (sym e) (refused (is_wave a) (record { instance = 0; target = n; waveform = waveform_of a }) h)
+not_made signals a (Some n) e h = rw (sym e) (refused (is_wave a.elements) (record { instance = 0; target = n; waveform = waveform_of a.elements }) h)
 
 -- so many assignments have their process, and the signals that they assign to are marked
 pub record AreSoFar (signals : List (List ℕ)) (as' : List Assignment) (ps : List Process) (assigned : List Bool) (turn : ℕ) : Type 0 where

@@ -1,4 +1,4 @@
--- What the functions that test a file and build its design give.
+-- What the functions that test a form and build its design give.
 use Rattle.std.specs.Prelude.{◌≡◌, ℕ, List, Bool, true, false, ◌&&◌, nat_le, map, Option, Some, None, Result, Ok, Err, is_some, if◌then◌else◌}
 use Rattle.std.specs.Borrow.{Bor}
 use Rattle.std.specs.Ordering.{nat_cmp}
@@ -12,10 +12,10 @@ use Rattle.sim_design.specs.declared.Design.{Design}
 use Rattle.sim_design.specs.Design.{time_high, have_own_targets}
 use Rattle.first_form.specs.declared.fault.FormError.{FormError}
 use Rattle.first_form.specs.declared.fault.FormError.TheVariants.{NotBuilt, NoMemory}
-use Rattle.first_form.specs.declared.tree.Element.{Element}
-use Rattle.first_form.specs.declared.tree.Assignment.{Assignment}
-use Rattle.first_form.specs.declared.tree.DesignFile.{DesignFile}
-use Rattle.first_form.specs.Tree.{number_in, delay_of, transaction_of, waveform_of, process_of, design_of, are_distinct, is_bit, is_wave, is_assignment, is_right}
+use Rattle.first_form.specs.declared.form.Element.{Element}
+use Rattle.first_form.specs.declared.form.Assignment.{Assignment}
+use Rattle.first_form.specs.declared.form.Form.{Form}
+use Rattle.first_form.specs.Form.{number_in, delay_of, transaction_of, waveform_of, process_of, design_of, are_distinct, is_bit, is_wave, is_assignment, is_right}
 
 -- the numbers of signals by their names
 abbrev pub Numbers : Type 0
@@ -43,18 +43,18 @@ is_transaction e = is_bit e && nat_le (delay_of e) time_high
 abbrev pub transaction_from : Element → Option WaveformElement
 transaction_from e = if is_transaction e then Some (transaction_of e) else None
 
-abbrev pub waveform_from : Assignment → Option (List WaveformElement)
-waveform_from a = if is_wave a then Some (waveform_of a) else None
+abbrev pub waveform_from : List Element → Option (List WaveformElement)
+waveform_from es = if is_wave es then Some (waveform_of es) else None
 
 abbrev pub process_with : Option ℕ → Assignment → Option Process
 process_with None a = None
 process_with (Some number) a =
-    if is_wave a then Some (record { instance = 0; target = number; waveform = waveform_of a }) else None
+    if is_wave a.elements then Some (record { instance = 0; target = number; waveform = waveform_of a.elements }) else None
 
 abbrev pub processes_from : List (List ℕ) → List Assignment → Option (List Process)
 processes_from signals as' =
     if list_all (is_assignment signals) as' && have_own_targets (map (process_of signals) as')
     then Some (map (process_of signals) as') else None
 
-abbrev pub design_from : DesignFile → Option Design
+abbrev pub design_from : Form → Option Design
 design_from f = if is_right f then Some (design_of f) else None

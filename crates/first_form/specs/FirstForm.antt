@@ -1,25 +1,26 @@
-use Rattle.std.specs.Prelude.{◌≡◌, ℕ, List, Result, Ok, Err, IsTrue}
+use Rattle.std.specs.Prelude.{◌≡◌, ℕ, List, Some, Result, Ok, Err, IsTrue}
+use Rattle.vhdl_tree.specs.declared.units.DesignFile.{DesignFile}
 use Rattle.sim_design.specs.declared.Design.{Design}
 use Rattle.first_form.specs.declared.fault.FormError.{FormError}
 use Rattle.first_form.specs.declared.fault.FormError.TheVariants.{NotBuilt, NoMemory}
-use Rattle.first_form.specs.declared.tree.DesignFile.{DesignFile}
-use Rattle.first_form.specs.Lexis.{Tokens}
-use Rattle.first_form.specs.Tree.{file_text, is_right, design_of}
+use Rattle.first_form.specs.declared.form.Form.{Form}
+use Rattle.first_form.specs.Form.{is_right, design_of}
+use Rattle.first_form.specs.Reading.{form_in}
 
--- The text is of the first form, and the design is what it stands for: its tokens are those of a
--- file, in the order of the production; the file's conditions hold; and the design is the file's.
-pub record FirstForm (text : List ℕ) (d : Design) : Type 0 where
-  pub file : DesignFile
-  pub spelled : Tokens (file_text file) text
-  pub right : IsTrue (is_right file)
-  pub design : d ≡ design_of file
+-- The tree of a text is of the first form, and the design is what it stands for: the form is that of the
+-- tree, in the order of the production; its conditions hold; and the design is the form's.
+pub record IsForm (text : List ℕ) (tree : DesignFile) (d : Design) : Type 0 where
+  pub form : Form
+  pub read : form_in text tree ≡ Some form
+  pub right : IsTrue (is_right form)
+  pub design : d ≡ design_of form
 
--- no design is that of the text, unless it was memory that ran out
-abbrev pub HasNoDesign : FormError → List ℕ → Type 0
-HasNoDesign NoMemory text = Unit {0}
-HasNoDesign NotBuilt text = (d : Design) → FirstForm text d → ⊥
+-- no design is that of the tree, unless it was memory that ran out
+abbrev pub HasNoDesign : FormError → List ℕ → DesignFile → Type 0
+HasNoDesign NoMemory text tree = Unit {0}
+HasNoDesign NotBuilt text tree = (d : Design) → IsForm text tree d → ⊥
 
--- what was returned is the design of the text
-abbrev pub IsReading : Result Design FormError → List ℕ → Type 0
-IsReading (Ok d) text = FirstForm text d
-IsReading (Err e) text = HasNoDesign e text
+-- what was returned is the design of the tree
+abbrev pub IsReading : Result Design FormError → List ℕ → DesignFile → Type 0
+IsReading (Ok d) text tree = IsForm text tree d
+IsReading (Err e) text tree = HasNoDesign e text tree

@@ -1,5 +1,5 @@
+pub mod Answers
 pub mod Building
 pub mod FirstForm
-pub mod Lexis
+pub mod Form
 pub mod Reading
-pub mod Tree

@@ -1,26 +1,23 @@
-ghost use Rattle.std.specs.Prelude.{◌≡◌, ◌+◌, ◌-◌, ◌*◌, ◌^◌, ◌<◌, ◌≤◌, ℕ, true, false, not, List, Some, length, map, IfOk, slice_index_or, slice_set, vec_len};
+ghost use Rattle.std.specs.Prelude.{◌≡◌, ◌+◌, ◌-◌, ◌*◌, ◌^◌, ◌<◌, ◌≤◌, ℕ, true, false, not, nat_lt, List, ◌∷◌, Some, length, map, IfOk, slice_index_or, slice_set, vec_len};
 ghost use Rattle.std.specs.Option.{SomeIff};
 ghost use Rattle.sim_design.specs.Design.{time_high, IsNumbered};
-ghost use Rattle.first_form.specs.Lexis as lexis;
-ghost use Rattle.first_form.specs.Tree as tree;
+ghost use Rattle.first_form.specs.Answers.{Gives};
+ghost use Rattle.first_form.specs.Form as spec;
 ghost use Rattle.first_form.specs.Building as building;
 ghost use Rattle.first_form.specs.Building.{AddsNumber, AreNumbered, number_at};
-ghost use Rattle.first_form.specs.Reading.{Gives};
 
 use crate::fault::FormError;
-use crate::token::TimeUnit;
-use crate::tree::{Assignment, DesignFile, Element};
+use crate::form::{Assignment, Element, Form, TimeUnit};
 use sim_design::{Design, Instance, Net, Process, WaveformElement};
 use sqlite_items::Items;
 use std::alloc::Global;
 use std::collections::BTreeMap;
 
 /// TIME'HIGH, in femtoseconds.
-const TIME_HIGH: u64 = 9_223_372_036_854_775_807;
+const TIME_HIGH: u128 = 9_223_372_036_854_775_807;
 
-fn femtoseconds_in(unit: TimeUnit) -> u64
-    ensures value { result ≡ lexis.femtoseconds_in unit }
-    ensures some { 1 ≤ result }
+fn femtoseconds_in(unit: TimeUnit) -> u128
+    ensures { result ≡ spec.femtoseconds_in unit }
 {
     match unit {
         TimeUnit::Femtosecond => 1,
@@ -34,37 +31,13 @@ fn femtoseconds_in(unit: TimeUnit) -> u64
     }
 }
 
-/// The number with one more digit at its end, if it fits.
-fn with_digit(number: u64, digit: u8) -> Option<u64>
-    ensures { SomeIff result (10 * number + (digit - 48) < 2 ^ 64) (10 * number + (digit - 48)) }
-{
-    number
-        .checked_mul(10)?
-        .checked_add(u64::from(digit.saturating_sub(b'0')))
-}
-
-/// The number that the digits spell, if it fits.
-fn number_of(digits: &[u8]) -> Option<u64>
-    ensures { SomeIff result (tree.number_of_digits digits.now < 2 ^ 64) (tree.number_of_digits digits.now) }
-{
-    let mut number = 0;
-    for digit in digits {
-        match with_digit(number, *digit) {
-            Some(next) => number = next,
-            None => return None,
-        }
-    }
-    Some(number)
-}
-
 /// The time of an element in femtoseconds, if it is a value of TIME.
 fn delay_of(element: &Element) -> Option<u64>
-    ensures { SomeIff result (tree.delay_of element.now ≤ time_high) (tree.delay_of element.now) }
+    ensures { SomeIff result (spec.delay_of element.now ≤ time_high) (spec.delay_of element.now) }
 {
-    let number = number_of(element.digits.as_slice())?;
-    let delay = number.checked_mul(femtoseconds_in(element.unit))?;
+    let delay = element.number.checked_mul(femtoseconds_in(element.unit))?;
     if delay <= TIME_HIGH {
-        Some(delay)
+        Some(delay as u64)
     } else {
         None
     }
@@ -81,16 +54,21 @@ fn transaction_of(element: &Element) -> Option<WaveformElement>
     }
 }
 
-fn waveform_of(alloc: Global, assignment: &Assignment) -> Result<Items<WaveformElement>, FormError>
-    ensures { Gives (λ w. w) result (building.waveform_from assignment.now) }
+/// The waveform of these elements, of which there is at least one.
+fn waveform_from(
+    alloc: Global,
+    first: &Element,
+    more: &[Element],
+) -> Result<Items<WaveformElement>, FormError>
+    ensures { Gives (λ w. w) result (building.waveform_from (first.now ∷ more.now)) }
 {
-    let Some(first) = transaction_of(&assignment.first) else {
+    let Some(begun) = transaction_of(first) else {
         return Err(FormError::NotBuilt);
     };
-    let mut last = first.delay;
+    let mut last = begun.delay;
     let mut waveform = Items::new(alloc);
-    waveform.push(first)?;
-    for element in assignment.more.as_slice() {
+    waveform.push(begun)?;
+    for element in more {
         let Some(next) = transaction_of(element) else {
             return Err(FormError::NotBuilt);
         };
@@ -103,8 +81,17 @@ fn waveform_of(alloc: Global, assignment: &Assignment) -> Result<Items<WaveformE
     Ok(waveform)
 }
 
+fn waveform_of(alloc: Global, elements: &[Element]) -> Result<Items<WaveformElement>, FormError>
+    ensures { Gives (λ w. w) result (building.waveform_from elements.now) }
+{
+    match elements {
+        [first, more @ ..] => waveform_from(alloc, first, more),
+        [] => Err(FormError::NotBuilt),
+    }
+}
+
 fn nets_of(alloc: Global, signals: &[Items<u8>]) -> Result<Items<Net>, FormError>
-    ensures { Gives (λ n. n) result (Some (map tree.net_of signals.now)) }
+    ensures { Gives (λ n. n) result (Some (map spec.net_of signals.now)) }
 {
     let mut nets = Items::new(alloc);
     for signal in signals {
@@ -166,7 +153,7 @@ fn process_of(
     let Some(target) = number_of_name(numbers, assignment.target.as_slice()) else {
         return Err(FormError::NotBuilt);
     };
-    let waveform = waveform_of(alloc, assignment)?;
+    let waveform = waveform_of(alloc, assignment.elements.as_slice())?;
     Ok(Process {
         instance: 0,
         target,
@@ -192,7 +179,7 @@ fn processes_of(
     numbers: &BTreeMap<&[u8], u32>,
     assignments: &[Assignment],
 ) -> Result<Items<Process>, FormError>
-    requires { (q : List ℕ) → number_at numbers.now q ≡ tree.number_in signals.now q }
+    requires { (q : List ℕ) → number_at numbers.now q ≡ spec.number_in signals.now q }
     ensures { Gives (λ p. p) result (building.processes_from signals.now assignments.now) }
 {
     let mut assigned = vec![in alloc; false; signals.len()]?;
@@ -210,27 +197,37 @@ fn processes_of(
     Ok(processes)
 }
 
-/// The design of a file, if its conditions hold.
-pub fn design_of(alloc: Global, file: &DesignFile) -> Result<Design, FormError>
-    requires signals { length file.now.signals < 2 ^ 32 }
-    requires assignments { length file.now.assignments < 2 ^ 32 }
-    ensures read { Gives (λ d. d) result (building.design_from file.now) }
+/// Whether so many nets or processes can be numbered. A text of 1 MiB never has more, and a design that
+/// has more has no place in memory.
+fn can_be_numbered(count: usize) -> bool
+    ensures { result ≡ nat_lt count (2 ^ 32) }
+{
+    count < 4_294_967_296
+}
+
+/// The design of a form, if its conditions hold.
+pub fn design_of(alloc: Global, form: &Form) -> Result<Design, FormError>
+    ensures read { Gives (λ d. d) result (building.design_from form.now) }
     ensures numbered { IfOk result (λ d. IsNumbered d) }
 {
-    let signals = file.signals.as_slice();
+    let signals = form.signals.as_slice();
+    let assignments = form.assignments.as_slice();
+    if !can_be_numbered(signals.len()) || !can_be_numbered(assignments.len()) {
+        return Err(FormError::NoMemory);
+    }
     let numbers = match numbers_of(alloc, signals) {
         Ok(numbers) => numbers,
         Err(fault) => return Err(fault),
     };
-    let processes = match processes_of(alloc, signals, &numbers, file.assignments.as_slice()) {
+    let processes = match processes_of(alloc, signals, &numbers, assignments) {
         Ok(processes) => processes,
         Err(fault) => return Err(fault),
     };
     let nets = nets_of(alloc, signals)?;
     let mut instances = Items::new(alloc);
     instances.push(Instance {
-        name: Items::from_slice(alloc, file.entity.as_slice())?,
-        architecture: Items::from_slice(alloc, file.architecture.as_slice())?,
+        name: Items::from_slice(alloc, form.entity.as_slice())?,
+        architecture: Items::from_slice(alloc, form.architecture.as_slice())?,
     })?;
     Ok(Design {
         instances,

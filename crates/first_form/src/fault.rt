@@ -3,10 +3,10 @@ ghost use Rattle.first_form.specs.declared.fault.FormError.TheVariants.{NoMemory
 
 use std::alloc::{AllocError, AllocFailed};
 
-/// Why a text was not read.
+/// Why a tree has no design.
 #[derive(Clone, Copy, Debug, PartialEq, Eq, Drop)]
 pub enum FormError {
-    /// The text is not of the first form.
+    /// The tree is not of the first form.
     NotBuilt,
     /// Memory ran out.
     NoMemory,

@@ -1,104 +1,172 @@
+//! Designs of trees of one shape, worked by hand. The tokens of a tree are those of a text, which has the
+//! words of the first one in `FORMS` at the same places.
+
 use super::*;
 use sim_design::Design;
+use sqlite_items::Items;
+use std::alloc::{AllocError, Global};
 use std::test::Fail;
+use vhdl_tokens::{TEXT_LIMIT, Token, tokens};
+use vhdl_tree::{
+    Architecture, Concurrent, ConcurrentAssignment, ConcurrentBody, Declaration, Delay, DesignFile,
+    DesignUnit, Element, Entity, Expr, LibraryUnit, Name, ObjectDeclaration, Subtype,
+};
 
-const PULSE: &str =
-    "entity top is end;\narchitecture a of top is\n  signal s : bit;\nbegin\n  s <= '1' after 2 ns, '0' after 5 ns;\nend;\n";
-
-/// Texts of the form, and what they stand for: the instance, the nets, and for each process its
-/// target and its waveform.
-const FORMS: [(&str, &str); 8] = [
-    (PULSE, "top(a) s 0:1@2000000,0@5000000,"),
-    ("entity e is end; architecture a of e is begin end;", "e(a)"),
+/// Texts of the form, and what they stand for: the instance, the net, and the process with its target
+/// and its waveform.
+const FORMS: [(&str, &str); 12] = [
     (
-        "ENTITY Top_1 IS END;ARCHITECTURE A2 OF tOP_1 IS SIGNAL S:BIT;SIGNAL t_U:Bit;BEGIN T_u<='0'AFTER 007 NS;s<='1'AFTER 1 Us,'0'AFTER 1000000001 FS;END;",
-        "top_1(a2) s t_u 1:0@7000000, 0:1@1000000000,0@1000000001,",
+        "entity top is end; architecture a of top is signal s : bit; begin s <= '1' after 2 ns; end;",
+        "top(a) s 0:1@2000000,",
     ),
     (
-        "\t entity\re\nis\tend\r\n;architecture a of e is signal x:bit;begin end;\r\n\t ",
-        "e(a) x",
+        "ENTITY Top_1 IS END;ARCHITECTURE A2 OF tOP_1 IS SIGNAL S:Bit;BEGIN s<='0'AFTER 007 NS;END;",
+        "top_1(a2) s 0:0@7000000,",
     ),
     (
-        "entity e is end; architecture a of e is signal s : bit; begin s <= '0' after 000 fs, '1' after 1 fs, '0' after 1 ps, '1' after 1 ns, '0' after 1 us, '1' after 1 ms, '0' after 1 sec, '1' after 1 min, '0' after 1 hr; end;",
-        "e(a) s 0:0@0,1@1,0@1000,1@1000000,0@1000000000,1@1000000000000,0@1000000000000000,1@60000000000000000,0@3600000000000000000,",
+        "entity e is end; -- e\narchitecture a of e is signal s : bit; begin /* one */ s <= '1' after 1_000 ps; end;",
+        "e(a) s 0:1@1000000,",
+    ),
+    (
+        "entity e is end; architecture s of e is signal e : bit; begin e <= '1' after 1 fs; end;",
+        "e(s) e 0:1@1,",
     ),
     (
         "entity e is end; architecture a of e is signal s : bit; begin s <= '1' after 9223372036854775807 fs; end;",
         "e(a) s 0:1@9223372036854775807,",
     ),
     (
-        "entity e is end; architecture a of e is signal s : bit; begin s <= '1' after 000000000000000000000000000000000 hr, '0' after 2 hr, '1' after 153 min; end;",
-        "e(a) s 0:1@0,0@7200000000000000000,1@9180000000000000000,",
+        "entity e is end; architecture a of e is signal s : bit; begin s <= '1' after 0000000000000000000000000000000000000000000 hr; end;",
+        "e(a) s 0:1@0,",
     ),
     (
-        "entity e is end; architecture s of e is signal e : bit; signal a : bit; begin a <= '1' after 1 fs; end;",
-        "e(s) e a 1:1@1,",
+        "entity e is end; architecture a of e is signal s : bit; begin s <= '0' after 3 us; end;",
+        "e(a) s 0:0@3000000000,",
+    ),
+    (
+        "entity e is end; architecture a of e is signal s : bit; begin s <= '0' after 4 ms; end;",
+        "e(a) s 0:0@4000000000000,",
+    ),
+    (
+        "entity e is end; architecture a of e is signal s : bit; begin s <= '0' after 5 sec; end;",
+        "e(a) s 0:0@5000000000000000,",
+    ),
+    (
+        "entity e is end; architecture a of e is signal s : bit; begin s <= '1' after 153 min; end;",
+        "e(a) s 0:1@9180000000000000000,",
+    ),
+    (
+        "entity e is end; architecture a of e is signal s : bit; begin s <= '0' after 2 hr; end;",
+        "e(a) s 0:0@7200000000000000000,",
+    ),
+    (
+        "entity e is end; architecture a of e is signal s : bit; begin s <= '0' after 6 Ps; end;",
+        "e(a) s 0:0@6000,",
     ),
 ];
 
 /// Texts that are just not of the form.
-const WHOLE: [&str; 19] = [
-    "",
-    "x",
+const OTHERS: [&str; 14] = [
     // another name after `of`, and names that can be none
-    "entity e is end; architecture a of f is begin end;",
-    "entity wait is end; architecture a of wait is begin end;",
-    "entity bit is end; architecture a of bit is begin end;",
-    "entity e is end; architecture ns of e is begin end;",
-    "entity 1e is end; architecture a of 1e is begin end;",
-    "entity _e is end; architecture a of _e is begin end;",
-    "entity e_ is end; architecture a of e_ is begin end;",
-    "entity e__f is end; architecture a of e__f is begin end;",
-    "entity e$ is end; architecture a of e$ is begin end;",
-    // comments and other separators
-    "entity e is end; -- e\narchitecture a of e is begin end;",
-    "entity e is end;\x0Barchitecture a of e is begin end;",
-    // the order, and the end
-    "architecture a of e is begin end; entity e is end;",
-    "entity e is end e; architecture a of e is begin end;",
-    "entity e is end; architecture a of e is end;",
-    "entity e is end; architecture a of e is begin end",
-    "entity e is end; architecture a of e is begin end; end;",
-    "entity e is end; architecture a of e is begin end; x",
+    "entity e is end; architecture a of f is signal s : bit; begin s <= '1' after 2 ns; end;",
+    "entity bit is end; architecture a of bit is signal s : bit; begin s <= '1' after 2 ns; end;",
+    "entity e is end; architecture ns of e is signal s : bit; begin s <= '1' after 2 ns; end;",
+    "entity e is end; architecture a of e is signal Hr : bit; begin hr <= '1' after 2 ns; end;",
+    // another type, and another target
+    "entity e is end; architecture a of e is signal s : boolean; begin s <= '1' after 2 ns; end;",
+    "entity e is end; architecture a of e is signal s : bit; begin t <= '1' after 2 ns; end;",
+    // other values
+    "entity e is end; architecture a of e is signal s : bit; begin s <= '2' after 2 ns; end;",
+    "entity e is end; architecture a of e is signal s : bit; begin s <= \"1\" after 2 ns; end;",
+    "entity e is end; architecture a of e is signal s : bit; begin s <= 1 after 2 ns; end;",
+    // other times
+    "entity e is end; architecture a of e is signal s : bit; begin s <= '1' after 2 kg; end;",
+    "entity e is end; architecture a of e is signal s : bit; begin s <= '1' after 9223372036854775808 fs; end;",
+    "entity e is end; architecture a of e is signal s : bit; begin s <= '1' after 154 min; end;",
+    "entity e is end; architecture a of e is signal s : bit; begin s <= '1' after 18446744073709551617 fs; end;",
+    "entity e is end; architecture a of e is signal s : bit; begin s <= '1' after 340282366920938463463374607431768211455 hr; end;",
 ];
 
-/// Declarations and statements of texts that are just not of the form.
-const BODIES: [(&str, &str); 28] = [
-    ("signal s : bit; signal S : bit;", ""),
-    ("signal process : bit;", ""),
-    ("signal bit : bit;", ""),
-    ("signal fs : bit;", ""),
-    ("signal s : boolean;", ""),
-    ("signal s, t : bit;", ""),
-    ("signal s : bit", ""),
-    ("signal s : bit;", "t <= '1' after 1 fs;"),
-    (
-        "signal s : bit;",
-        "s <= '1' after 1 fs; S <= '0' after 2 fs;",
-    ),
-    ("signal s : bit;", "s <= ;"),
-    ("signal s : bit;", "s <= '2' after 1 fs;"),
-    ("signal s : bit;", "s <= '01' after 1 fs;"),
-    ("signal s : bit;", "s <= '1 after 1 fs;"),
-    ("signal s : bit;", "s <= 1 after 1 fs;"),
-    ("signal s : bit;", "s < = '1' after 1 fs;"),
-    ("signal s : bit;", "s <= '1';"),
-    ("signal s : bit;", "s <= '1' after 1;"),
-    ("signal s : bit;", "s <= '1' after 1 kg;"),
-    ("signal s : bit;", "s <= '1' after 1fs;"),
-    ("signal s : bit;", "s <= '1' after 1_000 fs;"),
-    ("signal s : bit;", "s <= '1' after 1 fs, ;"),
-    ("signal s : bit;", "s <= '1' after 1 fs '0' after 2 fs;"),
-    ("signal s : bit;", "s <= '1' after 1 fs"),
-    ("signal s : bit;", "s <= '1' after 1 ns, '0' after 1000 ps;"),
-    (
-        "signal s : bit;",
-        "s <= '1' after 2 fs, '0' after 3 fs, '1' after 2 fs;",
-    ),
-    ("signal s : bit;", "s <= '1' after 9223372036854775808 fs;"),
-    ("signal s : bit;", "s <= '1' after 154 min;"),
-    ("signal s : bit;", "s <= '1' after 18446744073709551617 fs;"),
-];
+fn one<T: Drop>(alloc: Global, item: T) -> Result<Items<T>, AllocError> {
+    let mut items = Items::new(alloc);
+    items.push(item)?;
+    Ok(items)
+}
+
+fn token(tokens: &[Token], place: usize) -> Result<Token, Fail> {
+    Ok(tokens.get(place).copied().ok_or("no such token")?)
+}
+
+fn entity(alloc: Global, tokens: &[Token]) -> Result<DesignUnit, Fail> {
+    Ok(DesignUnit {
+        context: Items::new(alloc),
+        unit: LibraryUnit::Entity(Entity {
+            line: 1,
+            name: token(tokens, 1)?,
+            generics: Items::new(alloc),
+            ports: Items::new(alloc),
+            end_name: None,
+        }),
+    })
+}
+
+fn signal(alloc: Global, tokens: &[Token]) -> Result<Declaration, Fail> {
+    Ok(Declaration::Signal(ObjectDeclaration {
+        names: one(alloc, token(tokens, 11)?)?,
+        subtype: Subtype {
+            mark: token(tokens, 13)?,
+            constraint: None,
+        },
+        initial: None,
+    }))
+}
+
+fn element(tokens: &[Token]) -> Result<Element, Fail> {
+    Ok(Element {
+        value: Expr::Literal(token(tokens, 18)?),
+        after: Some(Expr::Number(token(tokens, 20)?, Some(token(tokens, 21)?))),
+    })
+}
+
+fn assignment(alloc: Global, tokens: &[Token], label: Option<Token>) -> Result<Concurrent, Fail> {
+    Ok(Concurrent {
+        line: 1,
+        label,
+        body: ConcurrentBody::Assignment(ConcurrentAssignment {
+            postponed: false,
+            target: Name {
+                identifier: token(tokens, 16)?,
+                parts: Items::new(alloc),
+            },
+            delay: Delay::Inertial,
+            waveform: one(alloc, element(tokens)?)?,
+            alternatives: Items::new(alloc),
+            condition: None,
+        }),
+    })
+}
+
+fn architecture(alloc: Global, tokens: &[Token], label: Option<Token>) -> Result<DesignUnit, Fail> {
+    Ok(DesignUnit {
+        context: Items::new(alloc),
+        unit: LibraryUnit::Architecture(Architecture {
+            line: 1,
+            name: token(tokens, 6)?,
+            entity: token(tokens, 8)?,
+            declarations: one(alloc, signal(alloc, tokens)?)?,
+            statements: one(alloc, assignment(alloc, tokens, label)?)?,
+            end_name: None,
+        }),
+    })
+}
+
+/// The tree of these tokens, in which the statement has this label.
+fn tree(alloc: Global, tokens: &[Token], label: Option<Token>) -> Result<DesignFile, Fail> {
+    let mut units = Items::new(alloc);
+    units.push(entity(alloc, tokens)?)?;
+    units.push(architecture(alloc, tokens, label)?)?;
+    Ok(DesignFile { units })
+}
 
 fn push_name(out: &mut String, name: &[u8]) -> Result<(), Fail> {
     for byte in name {
@@ -142,10 +210,12 @@ fn shown(rt: &HostRuntime, design: &Design) -> Result<String, Fail> {
 }
 
 #[test]
-fn reads_the_form(rt: HostRuntime) -> Result<(), Fail> {
+fn makes_the_design(rt: HostRuntime) -> Result<(), Fail> {
     for (text, want) in FORMS {
-        assert!(rt; text.len() <= 1_048_576);
-        let design = read_first_form(rt.alloc(), text.as_bytes())
+        assert!(rt; text.len() <= TEXT_LIMIT);
+        let tokens = tokens(rt.alloc(), text.as_bytes()).ok().ok_or(text)?;
+        let tree = tree(rt.alloc(), &tokens, None)?;
+        let design = design_of_form(rt.alloc(), text.as_bytes(), &tree)
             .ok()
             .ok_or(text)?;
         assert_eq!(rt; shown(&rt, &design)?.as_str(), want);
@@ -154,29 +224,31 @@ fn reads_the_form(rt: HostRuntime) -> Result<(), Fail> {
 }
 
 #[test]
-fn refuses_every_other_text(rt: HostRuntime) -> Result<(), Fail> {
-    for text in WHOLE {
-        assert!(rt; text.len() <= 1_048_576);
-        assert!(rt;
-            matches!(
-                read_first_form(rt.alloc(), text.as_bytes()),
-                Err(FormError::NotBuilt)
-            ),
-            "{text}"
+fn refuses_every_other_tree(rt: HostRuntime) -> Result<(), Fail> {
+    for text in OTHERS {
+        assert!(rt; text.len() <= TEXT_LIMIT);
+        let tokens = tokens(rt.alloc(), text.as_bytes()).ok().ok_or(text)?;
+        let tree = tree(rt.alloc(), &tokens, None)?;
+        let refused = matches!(
+            design_of_form(rt.alloc(), text.as_bytes(), &tree),
+            Err(FormError::NotBuilt)
         );
+        assert!(rt; refused, "{text}");
     }
-    for (signals, statements) in BODIES {
-        let text = format!(in rt.alloc();
-            "entity e is end; architecture a of e is {signals} begin {statements} end;"
-        )?;
-        assert!(rt; text.len() <= 1_048_576);
-        assert!(rt;
-            matches!(
-                read_first_form(rt.alloc(), text.as_bytes()),
-                Err(FormError::NotBuilt)
-            ),
-            "{text}"
-        );
-    }
+    Ok(())
+}
+
+#[test]
+fn refuses_a_label(rt: HostRuntime) -> Result<(), Fail> {
+    let (text, _) = FORMS[0];
+    assert!(rt; text.len() <= TEXT_LIMIT);
+    let tokens = tokens(rt.alloc(), text.as_bytes()).ok().ok_or(text)?;
+    let label = token(&tokens, 6)?;
+    let tree = tree(rt.alloc(), &tokens, Some(label))?;
+    let refused = matches!(
+        design_of_form(rt.alloc(), text.as_bytes(), &tree),
+        Err(FormError::NotBuilt)
+    );
+    assert!(rt; refused);
     Ok(())
 }

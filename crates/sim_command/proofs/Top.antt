@@ -1,6 +1,6 @@
 use Rattle.std.proofs.Common.{◌≡◌, ℕ, ◌<◌, ◌≤◌, List, take, length, Option, Some, None, Result, Ok, Err, IfSome, IsSomeAnd, refl, sym, ap, subst, ◌∙◌, ◌⊎◌, inl, inr, arith}
 use Rattle.sim_design.specs.declared.Design.{Design}
-use Rattle.first_form.specs.FirstForm.{FirstForm}
+use Rattle.sim_session.specs.Text.{FirstForm, IsRefusedText}
 use Rattle.sim_host.specs.Host.{Seen, Written, Files, TextHas, WroteFront, wrote, added, also_asked, IsWhole, OnlyReads, Rose, bytes_of, took, started}
 use Rattle.sim_host.specs.declared.names.Asked.TheVariants.{Start}
 use Rattle.sim_host.specs.declared.channels.Channel.TheVariants as channel
@@ -13,7 +13,7 @@ use Rattle.sim_command.specs.declared.Status.{Status}
 use Rattle.sim_command.specs.declared.Status.TheVariants as status
 use Rattle.sim_command.specs.Words.{Command, Run}
 use Rattle.sim_command.specs.Faults.{session_fault}
-use Rattle.sim_command.specs.Outcome.{most_bytes, line_of, IsNotBuilt, RunShown, FrontShown, AsksOnce, IsRefused, Refuses, Interrupted, RunsDesign, Obeys, CauseOf, Said, SaidSome, Outcome, IsDoneWhereRun, IsRefusedWhereNot, Finishes, Settles}
+use Rattle.sim_command.specs.Outcome.{most_bytes, line_of, CannotRun, RunShown, FrontShown, AsksOnce, IsRefused, Refuses, Interrupted, RunsDesign, Obeys, CauseOf, Said, SaidSome, Outcome, IsDoneWhereRun, IsRefusedWhereNot, Finishes, Settles}
 
 -- A fault of the session, over the file as it was read.
 
@@ -58,9 +58,9 @@ cut_shown name text limit old mid new file same asked (inr h) = record {
 }
 
 pub session_cut : (f : SessionFault) (name text : List ℕ) (limit : ℕ) (old mid new : Seen) → IsWhole name most_bytes text old mid → OnlyReads old mid → Runs (Err f) text limit mid new → RunsDesign (Err (session_fault f)) name limit old new
-session_cut session.NotBuilt name text limit old mid new whole only h = record {
-  why = text_map name old (λ t. t ≡ text) (λ t. (length t ≤ most_bytes) × IsNotBuilt t)
-      (λ t e. subst (λ (u : List ℕ). (length u ≤ most_bytes) × IsNotBuilt u) (sym e) (whole.within, h.0)) whole.text;
+session_cut (session.Design f) name text limit old mid new whole only h = record {
+  why = text_map name old (λ t. t ≡ text) (λ t. (length t ≤ most_bytes) × IsRefusedText t f)
+      (λ t e. subst (λ (u : List ℕ). (length u ≤ most_bytes) × IsRefusedText u f) (sym e) (whole.within, h.0)) whole.text;
   written = ap (λ (s : Seen). s.written) h.1 ∙ only.written;
   asked = ap (λ (s : Seen). s.asked) h.1 ∙ began name (length text) old mid whole.taken;
 }
@@ -190,7 +190,7 @@ run_outcome : (r : Result (Unit {0}) CommandFault) (name : List ℕ) (limit : �
 run_outcome (Ok done) name limit result old mid new b m a ran cause h = done_outcome name limit result old mid new b m a ran cause h.0 h.1 h.2
 run_outcome (Err fault.Usage) name limit result old mid new b m a ran cause h = absurd ran
 run_outcome (Err fault.TooLong) name limit result old mid new b m a ran cause h = counted result (Some (Run name limit)) old new b m a cause (refused_outcome fault.TooLong name limit result old mid new m a ran h)
-run_outcome (Err fault.NotBuilt) name limit result old mid new b m a ran cause h = counted result (Some (Run name limit)) old new b m a cause (refused_outcome fault.NotBuilt name limit result old mid new m a ran h)
+run_outcome (Err (fault.Design f)) name limit result old mid new b m a ran cause h = counted result (Some (Run name limit)) old new b m a cause (refused_outcome (fault.Design f) name limit result old mid new m a ran h)
 run_outcome (Err fault.Host) name limit result old mid new b m a ran cause h = host_outcome name limit result old mid new b m a ran cause.1 h
 run_outcome (Err fault.NoMemory) name limit result old mid new b m a ran cause h = counted result (Some (Run name limit)) old new b m a cause (memory_outcome name limit result old mid new m a ran h)
 
@@ -218,8 +218,8 @@ not_refused fault.Usage name old files text d is here short form why = why
 not_refused fault.TooLong name old files text d is here short form why =
     let long : most_bytes < length text = told name old (λ t. most_bytes < length t) files text is here why in
     omega (arith, long, short)
-not_refused fault.NotBuilt name old files text d is here short form why =
-    (told name old (λ t. (length t ≤ most_bytes) × IsNotBuilt t) files text is here why).1 d form
+not_refused (fault.Design f) name old files text d is here short form why =
+    (told name old (λ t. (length t ≤ most_bytes) × IsRefusedText t f) files text is here why).1.none d form
 not_refused fault.Host name old files text d is here short form why = why
 not_refused fault.NoMemory name old files text d is here short form why = why
 
@@ -235,7 +235,7 @@ run_is_done (Some (Run name limit)) status.Usage old new b a h = absurd h
 run_is_done (Some (Run name limit)) status.NoMemory old new b a h = λ files text d is here short form calm. inr refl
 run_is_done (Some (Run name limit)) status.HostFault old new b a h = λ files text d is here short form calm. absurd (calm h.6)
 
-not_run : (name : List ℕ) (limit : ℕ) (old new : Seen) (files : Files) (text : List ℕ) → old.files ≡ Some files → bytes_of name files ≡ Some text → (most_bytes < length text) ⊎ IsNotBuilt text → RunShown name limit old new → ⊥
+not_run : (name : List ℕ) (limit : ℕ) (old new : Seen) (files : Files) (text : List ℕ) → old.files ≡ Some files → bytes_of name files ≡ Some text → (most_bytes < length text) ⊎ CannotRun text → RunShown name limit old new → ⊥
 not_run name limit old new files text is here (inl long) h =
     let same : text ≡ h.text = told name old (λ t. t ≡ h.text) files text is here h.file in
     omega (arith, long, h.within, ap length same)

@@ -12,6 +12,6 @@ read_fault read.TooLong = fault.TooLong
 read_fault read.NoMemory = fault.NoMemory
 
 abbrev pub session_fault : SessionFault → CommandFault
-session_fault session.NotBuilt = fault.NotBuilt
+session_fault (session.Design f) = fault.Design f
 session_fault session.Host = fault.Host
 session_fault session.NoMemory = fault.NoMemory

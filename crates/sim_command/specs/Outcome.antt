@@ -1,6 +1,8 @@
-use Rattle.std.specs.Prelude.{◌≡◌, ℕ, ◌<◌, ◌≤◌, List, ◌++◌, take, length, Option, Some, None, Result, Ok, Err, ◌⊎◌, codes}
+use Rattle.std.specs.Prelude.{◌≡◌, ℕ, ◌<◌, ◌≤◌, List, ◌++◌, take, length, Option, Some, None, Result, Ok, Err, ◌⊎◌, codes, decimal}
 use Rattle.sim_design.specs.declared.Design.{Design}
-use Rattle.first_form.specs.FirstForm.{FirstForm}
+use Rattle.sim_session.specs.Text.{FirstForm, IsRefusedText}
+use Rattle.sim_session.specs.declared.fault.DesignFault.{DesignFault}
+use Rattle.sim_session.specs.declared.fault.DesignFault.TheVariants as design
 use Rattle.sim_journal.specs.declared.Entry.{Entry}
 use Rattle.sim_journal.specs.declared.End.{End}
 use Rattle.sim_journal.specs.Print.{Print}
@@ -18,11 +20,19 @@ use Rattle.sim_command.specs.Words.{Command, Run}
 abbrev pub most_bytes : ℕ
 most_bytes = 1048576
 
+-- the words that are said of a text that can't be run
+abbrev pub words_of : DesignFault → List ℕ
+words_of (design.BadByte place) = codes "BadByte " ++ decimal place
+words_of (design.BadLiteral place) = codes "BadLiteral " ++ decimal place
+words_of (design.Syntax token) = codes "Syntax " ++ decimal token
+words_of (design.Nesting token) = codes "Nesting " ++ decimal token
+words_of design.NotBuilt = codes "NotBuilt"
+
 -- the line that is said of a fault
 abbrev pub line_of : CommandFault → List ℕ
 line_of fault.Usage = codes "vhpisim: usage\n"
 line_of fault.TooLong = codes "vhpisim: design: TooLong\n"
-line_of fault.NotBuilt = codes "vhpisim: design: NotBuilt\n"
+line_of (fault.Design f) = codes "vhpisim: design: " ++ (words_of f ++ codes "\n")
 line_of fault.Host = codes "vhpisim: host fault\n"
 line_of fault.NoMemory = codes "vhpisim: no memory\n"
 
@@ -30,7 +40,7 @@ line_of fault.NoMemory = codes "vhpisim: no memory\n"
 abbrev pub status_of : CommandFault → Status
 status_of fault.Usage = status.Usage
 status_of fault.TooLong = status.Refused
-status_of fault.NotBuilt = status.Refused
+status_of (fault.Design f) = status.Refused
 status_of fault.Host = status.HostFault
 status_of fault.NoMemory = status.NoMemory
 
@@ -45,8 +55,8 @@ without_memory status.HostFault = status.HostFault
 -- Before the line.
 
 -- a text is of no form that can be run
-abbrev pub IsNotBuilt : List ℕ → Type 0
-IsNotBuilt text = (d : Design) → FirstForm text d → ⊥
+abbrev pub CannotRun : List ℕ → Type 0
+CannotRun text = (d : Design) → FirstForm text d → ⊥
 
 -- the design of the file was run, and the whole journal of its run was written to Out
 pub record RunShown (name : List ℕ) (limit : ℕ) (old new : Seen) : Type 0 where
@@ -82,10 +92,10 @@ IsShown name limit old now = (now ≡ old.written) ⊎ FrontShown name limit old
 abbrev pub AsksOnce : List ℕ → Seen → Seen → Type 0
 AsksOnce name old new = (new.asked ≡ also_asked (Start name) old.asked) ⊎ (new.asked ≡ old.asked)
 
--- why the file is refused: it has too many bytes, or is of no form that can be run
+-- why the file is refused: it has too many bytes, or its text can't be run
 abbrev pub IsRefused : CommandFault → List ℕ → Seen → Type 0
 IsRefused fault.TooLong name old = TextHas name old (λ t. most_bytes < length t)
-IsRefused fault.NotBuilt name old = TextHas name old (λ t. (length t ≤ most_bytes) × IsNotBuilt t)
+IsRefused (fault.Design f) name old = TextHas name old (λ t. (length t ≤ most_bytes) × IsRefusedText t f)
 IsRefused f name old = ⊥
 
 pub record Refuses (f : CommandFault) (name : List ℕ) (old new : Seen) : Type 0 where
@@ -102,7 +112,7 @@ abbrev pub RunsDesign : Result (Unit {0}) CommandFault → List ℕ → ℕ → 
 RunsDesign (Ok done) name limit old new = RunShown name limit old new
 RunsDesign (Err fault.Usage) name limit old new = ⊥
 RunsDesign (Err fault.TooLong) name limit old new = Refuses fault.TooLong name old new
-RunsDesign (Err fault.NotBuilt) name limit old new = Refuses fault.NotBuilt name old new
+RunsDesign (Err (fault.Design f)) name limit old new = Refuses (fault.Design f) name old new
 RunsDesign (Err fault.Host) name limit old new = Interrupted name limit old new
 RunsDesign (Err fault.NoMemory) name limit old new = Interrupted name limit old new
 
@@ -117,7 +127,7 @@ CauseOf (Ok done) before now = now ≡ before
 CauseOf (Err fault.Host) before now = (before ≤ now) × Rose before now
 CauseOf (Err fault.Usage) before now = now ≡ before
 CauseOf (Err fault.TooLong) before now = now ≡ before
-CauseOf (Err fault.NotBuilt) before now = now ≡ before
+CauseOf (Err (fault.Design f)) before now = now ≡ before
 CauseOf (Err fault.NoMemory) before now = now ≡ before
 
 -- With the line, and the status.
@@ -187,7 +197,7 @@ IsDoneWhereRun (Some (Run name limit)) result old before after =
 abbrev pub IsRefusedWhereNot : Option Command → Status → Seen → ℕ → ℕ → Type 0
 IsRefusedWhereNot None result old before after = (result ≡ status.Usage) ⊎ (result ≡ status.NoMemory)
 IsRefusedWhereNot (Some (Run name limit)) result old before after =
-    (files : Files) (text : List ℕ) → old.files ≡ Some files → bytes_of name files ≡ Some text → (most_bytes < length text) ⊎ IsNotBuilt text → (Rose before after → ⊥) → (result ≡ status.Refused) ⊎ (result ≡ status.NoMemory)
+    (files : Files) (text : List ℕ) → old.files ≡ Some files → bytes_of name files ≡ Some text → (most_bytes < length text) ⊎ CannotRun text → (Rose before after → ⊥) → (result ≡ status.Refused) ⊎ (result ≡ status.NoMemory)
 
 -- a line was said with a status: all of it; a front of it, at a fault; or a front of it, where memory ran out
 abbrev pub Finishes : List ℕ → Status → Status → Seen → Seen → ℕ → ℕ → Type 0

@@ -1,10 +1,13 @@
-ghost use Rattle.std.specs.Prelude.{◌≡◌};
+ghost use Rattle.std.specs.Prelude.{◌≡◌, ◌++◌, OnOk, IfOk, decimal};
 ghost use Rattle.sim_command.specs.Faults.{read_fault, session_fault};
 ghost use Rattle.sim_command.specs.Outcome as outcome;
 
 use crate::Status;
+use itoa::Buffer;
 use sim_host::ReadError;
-use sim_session::SessionFault;
+use sim_memory::NoMemory;
+use sim_session::{DesignFault, SessionFault};
+use std::alloc::Global;
 
 /// Why a command wasn't done.
 #[derive(Clone, Copy, Debug, PartialEq, Eq)]
@@ -13,8 +16,8 @@ pub enum CommandFault {
     Usage,
     /// The design file has more than 1,048,576 bytes.
     TooLong,
-    /// The design file isn't of the form that can be run so far.
-    NotBuilt,
+    /// The text of the design file can't be run.
+    Design(DesignFault),
     /// The host had a fault.
     Host,
     /// Memory that was asked for could not be had.
@@ -35,34 +38,54 @@ pub(crate) fn fault_of_session(fault: SessionFault) -> CommandFault
     ensures { result ≡ session_fault fault }
 {
     match fault {
-        SessionFault::NotBuilt => CommandFault::NotBuilt,
+        SessionFault::Design(fault) => CommandFault::Design(fault),
         SessionFault::Host => CommandFault::Host,
         SessionFault::NoMemory => CommandFault::NoMemory,
     }
 }
 
-// The line that is said of a fault.
-pub(crate) fn line_of(fault: CommandFault) -> &'static [u8]
-    ensures { result.now ≡ outcome.line_of fault }
+fn put(text: &mut Vec<u8>, bytes: &[u8]) -> Result<(), NoMemory>
+    ensures { OnOk result (text.new.items ≡ text.old.items ++ bytes.now) }
+{
+    text.extend_from_slice(bytes)?;
+    Ok(())
+}
+
+fn put_number(text: &mut Vec<u8>, number: u64) -> Result<(), NoMemory>
+    ensures { OnOk result (text.new.items ≡ text.old.items ++ decimal number) }
+{
+    let mut buffer = Buffer::new();
+    put(text, buffer.format(number).as_bytes())
+}
+
+fn put_numbered(text: &mut Vec<u8>, word: &[u8], number: u64) -> Result<(), NoMemory>
+    ensures { OnOk result (text.new.items ≡ text.old.items ++ (word.now ++ decimal number)) }
+{
+    put(text, word)?;
+    put_number(text, number)
+}
+
+fn put_words(text: &mut Vec<u8>, fault: DesignFault) -> Result<(), NoMemory>
+    ensures { OnOk result (text.new.items ≡ text.old.items ++ outcome.words_of fault) }
 {
     match fault {
-        CommandFault::Usage => b"vhpisim: usage\n",
-        CommandFault::TooLong => b"vhpisim: design: TooLong\n",
-        CommandFault::NotBuilt => b"vhpisim: design: NotBuilt\n",
-        CommandFault::Host => b"vhpisim: host fault\n",
-        CommandFault::NoMemory => b"vhpisim: no memory\n",
+        DesignFault::BadByte { place } => put_numbered(text, b"BadByte ", u64::from(place)),
+        DesignFault::BadLiteral { place } => put_numbered(text, b"BadLiteral ", u64::from(place)),
+        DesignFault::Syntax { token } => put_numbered(text, b"Syntax ", token as u64),
+        DesignFault::Nesting { token } => put_numbered(text, b"Nesting ", token as u64),
+        DesignFault::NotBuilt => put(text, b"NotBuilt"),
     }
 }
 
-pub(crate) fn status_of(fault: CommandFault) -> Status
-    ensures { result ≡ outcome.status_of fault }
+// The line that is said of a text that can't be run.
+pub(crate) fn refusal_line(alloc: Global, fault: DesignFault) -> Result<Vec<u8>, NoMemory>
+    ensures { IfOk result (λ line. line.items ≡ outcome.line_of (CommandFault.Design fault)) }
 {
-    match fault {
-        CommandFault::Usage => Status::Usage,
-        CommandFault::TooLong | CommandFault::NotBuilt => Status::Refused,
-        CommandFault::Host => Status::HostFault,
-        CommandFault::NoMemory => Status::NoMemory,
-    }
+    let mut line = Vec::new(alloc);
+    put(&mut line, b"vhpisim: design: ")?;
+    put_words(&mut line, fault)?;
+    put(&mut line, b"\n")?;
+    Ok(line)
 }
 
 // The status where memory ran out while the line was written.

@@ -1,12 +1,13 @@
 ghost use Rattle.std.specs.Prelude.{◌≡◌, map};
 ghost use Rattle.sim_command.specs.Words.{command};
 ghost use Rattle.sim_command.specs.Outcome.{RunsDesign, Obeys, CauseOf, IsDone, IsRefusal, IsUsage, IsNoMemory, IsHostFault, AsksOnly, IsDoneWhereRun, IsRefusedWhereNot, Finishes, Settles, Outcome};
+ghost use Rattle.sim_command.specs.Outcome as outcome;
 
-use crate::fault::{fault_of_read, fault_of_session, line_of, status_of, without_memory};
+use crate::fault::{fault_of_read, fault_of_session, refusal_line, without_memory};
 use crate::words::{Command, read_command};
 use crate::{CommandFault, Status};
 use sim_host::{Channel, Host, HostError, Name, read_all, write_all};
-use sim_session::{Job, run_session};
+use sim_session::{DesignFault, Job, run_session};
 use std::alloc::Global;
 
 /// The most bytes that a design file may have.
@@ -54,13 +55,36 @@ fn finish<H: Host>(host: &mut H, line: &[u8], status: Status) -> Status
     }
 }
 
+// Says why the text of a design file can't be run.
+fn refuse<H: Host>(alloc: Global, host: &mut H, fault: DesignFault) -> Status
+    ensures { Finishes (outcome.line_of (CommandFault.Design fault)) Status.Refused result (H.seen host.old) (H.seen host.new) (H.faults host.old) (H.faults host.new) }
+{
+    match refusal_line(alloc, fault) {
+        Ok(line) => finish(host, line.as_slice(), Status::Refused),
+        Err(_) => Status::NoMemory,
+    }
+}
+
+// Says why a command wasn't done.
+fn say<H: Host>(alloc: Global, host: &mut H, fault: CommandFault) -> Status
+    ensures { Finishes (outcome.line_of fault) (outcome.status_of fault) result (H.seen host.old) (H.seen host.new) (H.faults host.old) (H.faults host.new) }
+{
+    match fault {
+        CommandFault::Usage => finish(host, b"vhpisim: usage\n", Status::Usage),
+        CommandFault::TooLong => finish(host, b"vhpisim: design: TooLong\n", Status::Refused),
+        CommandFault::Design(fault) => refuse(alloc, host, fault),
+        CommandFault::Host => finish(host, b"vhpisim: host fault\n", Status::HostFault),
+        CommandFault::NoMemory => finish(host, b"vhpisim: no memory\n", Status::NoMemory),
+    }
+}
+
 // Says what a command came to.
-fn settle<H: Host>(host: &mut H, outcome: Result<(), CommandFault>) -> Status
+fn settle<H: Host>(alloc: Global, host: &mut H, outcome: Result<(), CommandFault>) -> Status
     ensures { Settles outcome result (H.seen host.old) (H.seen host.new) (H.faults host.old) (H.faults host.new) }
 {
     match outcome {
         Ok(()) => Status::Done,
-        Err(fault) => finish(host, line_of(fault), status_of(fault)),
+        Err(fault) => say(alloc, host, fault),
     }
 }
 
@@ -68,7 +92,7 @@ fn obey_and_settle<H: Host>(alloc: Global, words: &[Name], host: &mut H) -> Stat
     ensures { Outcome result (command words.now) (H.seen host.old) (H.seen host.new) (H.faults host.old) (H.faults host.new) }
 {
     let outcome = obey(alloc, words, host);
-    settle(host, outcome)
+    settle(alloc, host, outcome)
 }
 
 /// Does what the words after the program's name ask for, over a host, and answers the status that

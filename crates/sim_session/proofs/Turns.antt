@@ -16,13 +16,11 @@ use Rattle.vhpi_kernel.specs.Advance.{Advances, Falls, HasEnded}
 use Rattle.sim_session.specs.Turn.{IsAfter, Turned, TurnCut, Turns, AllWritten, PartWritten, RunsFrom}
 use Rattle.sim_session.specs.declared.fault.SessionFault.{SessionFault}
 use Rattle.sim_session.specs.declared.fault.SessionFault.TheVariants as fault
-use Rattle.sim_session.specs.Faults.{fault_of_host, fault_of_form}
+use Rattle.sim_session.specs.Faults.{fault_of_host}
 use Rattle.sim_session.specs.Session.{Runs, FrontWritten}
 use Rattle.sim_host.specs.declared.errors.HostError.{HostError}
 use Rattle.sim_host.specs.declared.errors.HostError.TheVariants as host
-use Rattle.first_form.specs.FirstForm.{FirstForm}
-use Rattle.first_form.specs.declared.fault.FormError.{FormError}
-use Rattle.first_form.specs.declared.fault.FormError.TheVariants as form
+use Rattle.sim_session.specs.Text.{FirstForm, IsRead}
 use Rattle.std.proofs.lemmas.Result.{err_from_is_err_and}
 
 -- all entries of a run so far were written
@@ -201,7 +199,7 @@ turns_host r e old new was now err cut =
 
 -- and cuts the run
 pub runs_cut : (f : SessionFault) (d : Design) (plan : Plan) (old new : World) (first was now : Seen) → SoFar d plan old first was → Turns (Err f) old new was now → RunsFrom (Err f) d plan first now
-runs_cut fault.NotBuilt d plan old new first was now s cut = cut
+runs_cut (fault.Design f) d plan old new first was now s cut = cut
 runs_cut fault.Host d plan old new first was now s cut = part_written d plan old first was now s cut
 runs_cut fault.NoMemory d plan old new first was now s cut = part_written d plan old first was now s cut
 
@@ -211,16 +209,17 @@ front_written text limit d was now form p = record { design = d; read = form; en
 
 pub session_runs : (r : Result End SessionFault) (text : List ℕ) (limit : ℕ) (d : Design) (was now : Seen) → FirstForm text d → RunsFrom r d (record { limit = limit }) was now → Runs r text limit was now
 session_runs (Ok end) text limit d was now form h = record { design = d; read = form; entries = h.entries; run = h.run; written = h.written }
-session_runs (Err fault.NotBuilt) text limit d was now form h = absurd h
+session_runs (Err (fault.Design f)) text limit d was now form h = absurd h
 session_runs (Err fault.Host) text limit d was now form h = inr (front_written text limit d was now form h)
 session_runs (Err fault.NoMemory) text limit d was now form h = inr (front_written text limit d was now form h)
 
-form_fault : (text : List ℕ) (limit : ℕ) (e : FormError) (was : Seen) → (e ≡ form.NotBuilt → (d : Design) → FirstForm text d → ⊥) → Runs (Err (fault_of_form e)) text limit was was
-form_fault text limit form.NotBuilt was none = (none refl, refl)
-form_fault text limit form.NoMemory was none = inl refl
-
 -- a text that isn't read is refused, and nothing is written
-pub session_refuses : (r : Result End SessionFault) (text : List ℕ) (limit : ℕ) (e : FormError) (was : Seen) → IsErrAnd r (λ f. f ≡ fault_of_form e) → (e ≡ form.NotBuilt → (d : Design) → FirstForm text d → ⊥) → Runs r text limit was was
-session_refuses r text limit e was err none =
+pub refuses_as : (e : SessionFault) (text : List ℕ) (limit : ℕ) (was : Seen) → IsRead (Err e) text → Runs (Err e) text limit was was
+refuses_as (fault.Design f) text limit was h = (h, refl)
+refuses_as fault.Host text limit was h = absurd h
+refuses_as fault.NoMemory text limit was h = inl refl
+
+pub session_refuses : (r : Result End SessionFault) (e : SessionFault) (text : List ℕ) (limit : ℕ) (was : Seen) → IsErrAnd r (λ f. f ≡ e) → IsRead (Err e) text → Runs r text limit was was
+session_refuses r e text limit was err h =
     let p = err_from_is_err_and r err in
-    rw (p.1, p.2) (form_fault text limit e was none)
+    rw (p.1, p.2) (refuses_as e text limit was h)

@@ -1,3 +1,4 @@
 pub mod Faults
 pub mod Session
+pub mod Text
 pub mod Turn

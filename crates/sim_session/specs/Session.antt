@@ -1,12 +1,13 @@
 use Rattle.std.specs.Prelude.{◌≡◌, ℕ, ◌≤◌, List, ◌++◌, Result, Ok, Err, OnOk, IsErrOf, ◌⊎◌}
 use Rattle.sim_design.specs.declared.Design.{Design}
-use Rattle.first_form.specs.FirstForm.{FirstForm}
+use Rattle.sim_session.specs.Text.{FirstForm, IsRefusedText}
 use Rattle.sim_journal.specs.declared.Entry.{Entry}
 use Rattle.sim_journal.specs.declared.End.{End}
 use Rattle.sim_journal.specs.Print.{Print}
 use Rattle.sim_cycle.specs.Run.{IsRun, Part}
 use Rattle.sim_host.specs.Host.{Seen, wrote, Rose}
 use Rattle.sim_host.specs.declared.channels.Channel.TheVariants as channel
+use Rattle.sim_session.specs.declared.fault.DesignFault.{DesignFault}
 use Rattle.sim_session.specs.declared.fault.SessionFault.{SessionFault}
 use Rattle.sim_session.specs.declared.fault.SessionFault.TheVariants as fault
 
@@ -36,7 +37,7 @@ IsCut text limit old new = (new ≡ old) ⊎ FrontWritten text limit old new
 -- what a session comes to
 abbrev pub Runs : Result End SessionFault → List ℕ → ℕ → Seen → Seen → Type 0
 Runs (Ok end) text limit old new = RunWritten text limit end old new
-Runs (Err fault.NotBuilt) text limit old new = ((d : Design) → FirstForm text d → ⊥) × (new ≡ old)
+Runs (Err (fault.Design f)) text limit old new = IsRefusedText text f × (new ≡ old)
 Runs (Err fault.Host) text limit old new = IsCut text limit old new
 Runs (Err fault.NoMemory) text limit old new = IsCut text limit old new
 
@@ -45,5 +46,5 @@ pub record HasSessionCause {T : Type 0} (before now : ℕ) (result : Result T Se
   pub later : before ≤ now
   pub host : IsErrOf result fault.Host → Rose before now
   pub ok : OnOk result (now ≡ before)
-  pub not_built : IsErrOf result fault.NotBuilt → now ≡ before
+  pub design : (f : DesignFault) → IsErrOf result (fault.Design f) → now ≡ before
   pub no_memory : IsErrOf result fault.NoMemory → now ≡ before

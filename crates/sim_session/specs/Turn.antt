@@ -39,7 +39,7 @@ pub record TurnCut (old : World) (was now : Seen) : Type 0 where
 
 abbrev pub Turns : Result Step SessionFault → World → World → Seen → Seen → Type 0
 Turns (Ok step) old new was now = Turned step old new was now
-Turns (Err fault.NotBuilt) old new was now = ⊥
+Turns (Err (fault.Design f)) old new was now = ⊥
 Turns (Err e) old new was now = TurnCut old was now
 
 -- what a run that begins comes to: all of its lines were written, or a front of the lines of its
@@ -59,5 +59,5 @@ pub record PartWritten (design : Design) (plan : Plan) (was now : Seen) : Type 0
 
 abbrev pub RunsFrom : Result End SessionFault → Design → Plan → Seen → Seen → Type 0
 RunsFrom (Ok end) design plan was now = AllWritten design plan end was now
-RunsFrom (Err fault.NotBuilt) design plan was now = ⊥
+RunsFrom (Err (fault.Design f)) design plan was now = ⊥
 RunsFrom (Err e) design plan was now = PartWritten design plan was now

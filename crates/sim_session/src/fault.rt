@@ -1,5 +1,5 @@
 ghost use Rattle.std.specs.Prelude.{◌≡◌};
-ghost use Rattle.sim_session.specs.Faults.{fault_of_host, fault_of_form};
+ghost use Rattle.sim_session.specs.Faults.{fault_of_host, fault_of_tokens, fault_of_syntax, fault_of_form};
 ghost use Rattle.sim_session.specs.declared.fault.SessionFault.TheVariants as faults;
 
 use first_form::FormError;
@@ -8,22 +8,63 @@ use sim_memory::NoMemory;
 use std::alloc::{AllocError, AllocFailed};
 use std::error::Error;
 use std::fmt;
+use vhdl_reader::SyntaxError;
+use vhdl_tokens::TokenError;
+
+/// Why the text of a design file can't be run.
+#[derive(Clone, Copy, Debug, PartialEq, Eq)]
+pub enum DesignFault {
+    /// No token begins with the byte at this place.
+    BadByte {
+        /// The place of the byte, from 0.
+        place: u32,
+    },
+    /// The token or comment that begins at this place isn't ended, or isn't well formed.
+    BadLiteral {
+        /// The place of its first byte, from 0.
+        place: u32,
+    },
+    /// No design file begins with the tokens up to this one; or it is the number of tokens, and they end too early.
+    Syntax {
+        /// The number of the token, from 0.
+        token: usize,
+    },
+    /// The first token at which brackets and statements nest more than 64 deep.
+    Nesting {
+        /// The number of the token, from 0.
+        token: usize,
+    },
+    /// The text is of the language, and not of a form that can be run so far.
+    NotBuilt,
+}
 
 /// Why a session didn't come to the end of a run.
 #[derive(Clone, Copy, Debug, PartialEq, Eq)]
 pub enum SessionFault {
-    /// The design's text isn't of a form that can be run so far.
-    NotBuilt,
+    /// The design's text can't be run.
+    Design(DesignFault),
     /// The host answered a fault.
     Host,
     /// Memory that was asked for could not be had.
     NoMemory,
 }
 
+impl fmt::Display for DesignFault {
+    fn fmt<W: fmt::Write>(&self, f: &mut fmt::Formatter<W>) -> fmt::Result {
+        match self {
+            DesignFault::BadByte { place } => write!(f, "no token begins with the byte at {place}"),
+            DesignFault::BadLiteral { place } => write!(f, "the token at {place} is malformed"),
+            DesignFault::Syntax { token } => write!(f, "no design file goes on with token {token}"),
+            DesignFault::Nesting { token } => write!(f, "token {token} nests too deep"),
+            DesignFault::NotBuilt => write!(f, "the design can't be run so far"),
+        }
+    }
+}
+
 impl fmt::Display for SessionFault {
     fn fmt<W: fmt::Write>(&self, f: &mut fmt::Formatter<W>) -> fmt::Result {
         match self {
-            SessionFault::NotBuilt => write!(f, "the design can't be run so far"),
+            SessionFault::Design(fault) => write!(f, "{fault}"),
             SessionFault::Host => write!(f, "host fault"),
             SessionFault::NoMemory => write!(f, "no memory"),
         }
@@ -51,12 +92,38 @@ impl From<HostError> for SessionFault {
     }
 }
 
+impl From<TokenError> for SessionFault {
+    ghost from_gives = { λ e f. f ≡ fault_of_tokens e };
+
+    fn from(error: TokenError) -> SessionFault {
+        match error {
+            TokenError::BadByte { place } => SessionFault::Design(DesignFault::BadByte { place }),
+            TokenError::BadLiteral { place } => {
+                SessionFault::Design(DesignFault::BadLiteral { place })
+            }
+            TokenError::NoMemory => SessionFault::NoMemory,
+        }
+    }
+}
+
+impl From<SyntaxError> for SessionFault {
+    ghost from_gives = { λ e f. f ≡ fault_of_syntax e };
+
+    fn from(error: SyntaxError) -> SessionFault {
+        match error {
+            SyntaxError::Syntax { token } => SessionFault::Design(DesignFault::Syntax { token }),
+            SyntaxError::Nesting { token } => SessionFault::Design(DesignFault::Nesting { token }),
+            SyntaxError::NoMemory => SessionFault::NoMemory,
+        }
+    }
+}
+
 impl From<FormError> for SessionFault {
     ghost from_gives = { λ e f. f ≡ fault_of_form e };
 
     fn from(error: FormError) -> SessionFault {
         match error {
-            FormError::NotBuilt => SessionFault::NotBuilt,
+            FormError::NotBuilt => SessionFault::Design(DesignFault::NotBuilt),
             FormError::NoMemory => SessionFault::NoMemory,
         }
     }

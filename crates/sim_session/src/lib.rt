@@ -3,8 +3,13 @@
 #![tactic(auto)]
 
 mod fault;
+mod reading;
 mod running;
 
-pub use fault::SessionFault;
+pub use fault::{DesignFault, SessionFault};
+pub use reading::read_text;
 pub use running::{Job, run_session};
 pub use sim_memory::NoMemory;
+
+#[cfg(test)]
+mod tests;

@@ -5,7 +5,7 @@ ghost use Rattle.sim_session.specs.Session.{Runs, HasSessionCause};
 ghost use Rattle.sim_session.specs.Turn.{Turns, RunsFrom};
 
 use crate::SessionFault;
-use first_form::read_first_form;
+use crate::reading::read_text;
 use sim_cycle::Plan;
 use sim_design::Design;
 use sim_host::{Channel, Host, write_all};
@@ -62,16 +62,16 @@ fn run<H: Host>(alloc: Global, kernel: &mut Kernel, host: &mut H) -> Result<End,
 
 /// Reads the text of a design file, which has at most 1,048,576 bytes, and runs its design. Each
 /// entry is written to Out as a line, in order, section by section. Answers how the run ended;
-/// `NotBuilt` where the text isn't of the form that can be run so far; `Host` only where the host's
-/// count of faults rose or stands at its last value. A run that is interrupted has written the first
-/// part of its lines.
+/// `Design` where the text can't be run, with the cause; `Host` only where the host's count of faults
+/// rose or stands at its last value. A run that is interrupted has written the first part of its
+/// lines.
 pub fn run_session<H: Host>(alloc: Global, job: Job, host: &mut H) -> Result<End, SessionFault>
     requires { length job.text.items ≤ 1048576 }
     ensures runs { Runs result job.text.items job.limit (H.seen host.old) (H.seen host.new) }
     ensures cause { HasSessionCause (H.faults host.old) (H.faults host.new) result }
 {
     let Job { text, limit } = job;
-    let design = read_first_form(alloc, text.as_slice())?;
+    let design = read_text(alloc, text.as_slice())?;
     let mut kernel = Kernel::start(alloc, design, Plan { limit })?;
     run(alloc, &mut kernel, host)
 }

@@ -15,6 +15,10 @@ const PULSE: &str =
 const WHOLE: &str =
     "@ 2000000 0 1\n! :top:s '1'\n@ 5000000 0 2\n! :top:s '0'\n# end quiet 5000000 2\n";
 
+// The same design with comments and capitals.
+const CAPITALS: &str =
+    "-- a comment\nENTITY TOP IS END;\nARCHITECTURE A OF TOP IS /* another\n one */\n  SIGNAL S : BIT;\nBEGIN\n  S <= '1' AFTER 2 NS, '0' AFTER 5 NS;\nEND;\n";
+
 const EMPTY: &str = "entity e is end; architecture a of e is begin end;";
 
 // Two signals of which the second is driven first in the text, both at one time.
@@ -76,7 +80,7 @@ fn times_asked(came: &Came) -> usize {
 // Runs that come to their end.
 #[test]
 fn runs(rt: HostRuntime) -> Result<(), Fail> {
-    let cases: [(&str, &str, usize, &str); 8] = [
+    let cases: [(&str, &str, usize, &str); 9] = [
         (PULSE, "3", 4096, WHOLE),
         (PULSE, "3", 1, WHOLE),
         (PULSE, "0000000002", 7, WHOLE),
@@ -88,6 +92,7 @@ fn runs(rt: HostRuntime) -> Result<(), Fail> {
             "@ 2000000 0 1\n! :top:s '1'\n# end limit 2000000 1\n",
         ),
         (EMPTY, "1", 4096, "# end quiet 0 0\n"),
+        (CAPITALS, "3", 4096, WHOLE),
         (
             TWO,
             "9",
@@ -133,17 +138,36 @@ fn usage(rt: HostRuntime) -> Result<(), Fail> {
     Ok(())
 }
 
+// Texts that can't be run, and the line that is said.
+const REFUSED: [(&str, &str); 8] = [
+    ("x", "vhpisim: design: Syntax 0\n"),
+    ("", "vhpisim: design: Syntax 0\n"),
+    (
+        "entity e is end; architecture a of e is begin end; x",
+        "vhpisim: design: Syntax 13\n",
+    ),
+    ("entity e is", "vhpisim: design: Syntax 3\n"),
+    ("entity \\e\\ is end;", "vhpisim: design: BadByte 7\n"),
+    (
+        "entity e is end; architecture a of e is constant c : integer := 340282366920938463463374607431768211456;",
+        "vhpisim: design: BadLiteral 64\n",
+    ),
+    (
+        "entity e is end; architecture a of e is constant c : integer := (((((((((((((((((((((((((((((((((((((((((((((((((((((((((((((((((",
+        "vhpisim: design: Nesting 79\n",
+    ),
+    (
+        "entity e is end; architecture a of f is begin end;",
+        "vhpisim: design: NotBuilt\n",
+    ),
+];
+
 // Files that are refused, and one that is missing.
 #[test]
 fn refusals(rt: HostRuntime) -> Result<(), Fail> {
-    let refused = "vhpisim: design: NotBuilt\n";
-    for text in [
-        "x",
-        "",
-        "entity e is end; architecture a of e is begin end; x",
-    ] {
+    for (text, line) in REFUSED {
         let came = outcome(rt.alloc(), text, &["run", "W", "3"], 4096, 0)?;
-        assert!(rt; is_came(&came, Status::Refused, "", refused));
+        assert!(rt; is_came(&came, Status::Refused, "", line), "{text}");
     }
     let missing = outcome(rt.alloc(), PULSE, &["run", "NOFILE", "3"], 4096, 0)?;
     assert!(rt; is_came(&missing, Status::HostFault, "", "vhpisim: host fault\n"));

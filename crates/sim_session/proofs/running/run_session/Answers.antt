@@ -1,5 +1,5 @@
-use Rattle.std.proofs.Common.{ap, Err, subst}
-use Rattle.first_form.specs.FirstForm.{FirstForm}
+use Rattle.std.proofs.Common.{Err, subst}
+use Rattle.sim_session.specs.Text.{FirstForm, IsRead}
 use Rattle.sim_cycle.specs.World.{World}
 use Rattle.sim_session.specs.Turn.{RunsFrom}
 use Rattle.sim_session.proofs.Turns.{session_runs, session_refuses}
@@ -7,10 +7,10 @@ use Rattle.sim_session.proofs.running.run_session.Goals as goal
 
 pub returns-in_err-design-clause-runs : goal.returns-in_err-design-clause-runs
 returns-in_err-design-clause-runs g c =
-    session_refuses _ c.args.job.text.items c.args.job.limit c.in_err-design.field-0.0 _ c.from_residual.ensures.1 (λ is d form. c.in_err-design.ensures.none (ap Err is) d (rw c.as_slice.ensures.value form))
+    session_refuses _ c.in_err-design.field-0.0 c.args.job.text.items c.args.job.limit _ c.from_residual.ensures.1 (subst (IsRead (Err c.in_err-design.field-0.0)) c.as_slice.ensures.value c.in_err-design.ensures.read)
 
 pub returns-clause-runs : goal.returns-clause-runs
 returns-clause-runs g c =
-    let read : FirstForm c.args.job.text.items c.in_ok-design.design = rw c.as_slice.ensures.value at c.in_ok-design.ensures.found in
+    let read : FirstForm c.args.job.text.items c.in_ok-design.design = rw c.as_slice.ensures.value at c.in_ok-design.ensures.read in
     session_runs c.run.result c.args.job.text.items c.args.job.limit c.in_ok-design.design _ _ read
     (subst (λ (w : World). RunsFrom c.run.result w.design w.plan (g.H.Host.seen c.args.host.now) (g.H.Host.seen c.run.new.host)) c.in_ok-kernel.ensures c.run.ensures.runs)

@@ -1,5 +1,0 @@
-use Rattle.first_form.proofs.Waves.{IsWaveSoFar}
-use Rattle.first_form.proofs.building.waveform_of.Given as goal
-
-abbrev pub invariant-loop-element : goal.invariant-loop-element
-invariant-loop-element l = IsWaveSoFar l.assignment l.waveform l.last l.element-index

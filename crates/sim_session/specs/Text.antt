@@ -1,0 +1,59 @@
+-- What the text of a design file comes to before it runs: the design of the first form, or why there is none.
+use Rattle.std.specs.Prelude.{ℕ, List, Result, Ok, Err}
+use Rattle.vhdl_tokens.specs.declared.token.Token.{Token}
+use Rattle.vhdl_tokens.specs.declared.token.TokenError.TheVariants as token_error
+use Rattle.vhdl_tokens.specs.Text.{Tokens, IsFault}
+use Rattle.vhdl_tree.specs.declared.units.DesignFile.{DesignFile}
+use Rattle.vhdl_tree.specs.Units.{Sentence}
+use Rattle.vhdl_tree.specs.Faults.{NestsWell, IsSyntaxFault, IsNestingFault}
+use Rattle.sim_design.specs.declared.Design.{Design}
+use Rattle.first_form.specs.FirstForm.{IsForm}
+use Rattle.sim_session.specs.declared.fault.DesignFault.{DesignFault}
+use Rattle.sim_session.specs.declared.fault.DesignFault.TheVariants as design
+use Rattle.sim_session.specs.declared.fault.SessionFault.{SessionFault}
+use Rattle.sim_session.specs.declared.fault.SessionFault.TheVariants as fault
+
+-- the text is of the language, and this is its tree
+pub record IsTreeOf (text : List ℕ) (tree : DesignFile) : Type 0 where
+  pub tokens : List Token
+  pub spelled : Tokens text tokens
+  pub sentence : Sentence tokens tree
+  pub nests : NestsWell tokens
+
+-- the text is of the first form, and the design is what it stands for
+pub record FirstForm (text : List ℕ) (d : Design) : Type 0 where
+  pub tree : DesignFile
+  pub reads : IsTreeOf text tree
+  pub form : IsForm text tree d
+
+-- a fault of the text's tokens
+pub record TokensBreak (text : List ℕ) (Breaks : List Token → Type 0) : Type 0 where
+  pub tokens : List Token
+  pub spelled : Tokens text tokens
+  pub breaks : Breaks tokens
+
+-- the text is of the language, and of no form that can be run so far
+pub record IsUnbuilt (text : List ℕ) : Type 0 where
+  pub tree : DesignFile
+  pub reads : IsTreeOf text tree
+  pub none : (d : Design) → IsForm text tree d → ⊥
+
+-- why the text of a design file can't be run
+abbrev pub IsDesignFault : List ℕ → DesignFault → Type 0
+IsDesignFault text (design.BadByte place) = IsFault text (token_error.BadByte place)
+IsDesignFault text (design.BadLiteral place) = IsFault text (token_error.BadLiteral place)
+IsDesignFault text (design.Syntax token) = TokensBreak text (λ tokens. IsSyntaxFault tokens token)
+IsDesignFault text (design.Nesting token) = TokensBreak text (λ tokens. IsNestingFault tokens token)
+IsDesignFault text design.NotBuilt = IsUnbuilt text
+
+-- a text is refused for its cause, and is not of the first form
+pub record IsRefusedText (text : List ℕ) (f : DesignFault) : Type 0 where
+  pub why : IsDesignFault text f
+  pub none : (d : Design) → FirstForm text d → ⊥
+
+-- what was returned is the design of the text, or why there is none
+abbrev pub IsRead : Result Design SessionFault → List ℕ → Type 0
+IsRead (Ok d) text = FirstForm text d
+IsRead (Err (fault.Design f)) text = IsRefusedText text f
+IsRead (Err fault.Host) text = ⊥
+IsRead (Err fault.NoMemory) text = Unit {0}

@@ -1,0 +1,5 @@
+pub mod Counts
+pub mod Numbers
+pub mod Members
+pub mod Given
+pub mod Sharing

@@ -1,0 +1,100 @@
+-- Lemmas on the lists of declarations and entries.
+use Rattle.std.proofs.Common.{◌≡◌, ℕ, Bool, true, List, [], ◌∷◌, ◌++◌, ◌⊎◌, inl, inr, refl, ◌∙◌, ap, arith, length, take, not, filter, find, Option}
+use Rattle.std.specs.Prelude.{Some, None, is_none, option_to_list}
+use Rattle.std.specs.List.{list_all}
+use Rattle.vhdl_types.specs.declared.entry.Entry.{Entry}
+use Rattle.vhdl_types.specs.Entries.{is_literal}
+use Rattle.vhdl_scope.specs.Declarations.{Named, own, is_other}
+use Rattle.vhdl_scope.specs.Hiding.{met, first_other, overloaded, seen}
+
+-- what two regions in one say of a name
+pub own_append : (name : List ℕ) (xs ys : List Named) → own name (xs ++ ys) ≡ own name xs ++ own name ys
+own_append name [] ys = refl
+own_append name (x ∷ xs) ys = grind (arith, own_append name xs ys)
+
+pub find_append : {X : Type 0} (p : X → Bool) (xs ys : List X) → find p xs ≡ None → find p (xs ++ ys) ≡ find p ys
+find_append p [] ys h = refl
+find_append p (x ∷ xs) ys h = grind (arith, find_append p xs ys)
+
+pub find_front : {X : Type 0} (p : X → Bool) (xs ys : List X) (x : X) → find p xs ≡ Some x → find p (xs ++ ys) ≡ Some x
+find_front p [] ys z h = grind arith
+find_front p (x ∷ xs) ys z h = grind (arith, find_front p xs ys z)
+
+take_first : {X : Type 0} (p : X → Bool) (xs : List X) → take 1 (filter p xs) ≡ option_to_list (find p xs)
+take_first p [] = refl
+take_first p (x ∷ xs) = grind (arith, take_first p xs)
+
+all_but : {X : Type 0} (p : X → Bool) (xs : List X) → list_all p xs ≡ is_none (find (λ x. not (p x)) xs)
+all_but p [] = refl
+all_but p (x ∷ xs) = grind (arith, all_but p xs)
+
+-- a declaration that is no literal
+pub met_other : (entries found : List Entry) (e : Entry) → first_other entries ≡ Some e → met entries found ≡ e ∷ []
+met_other [] found e h = grind arith
+met_other (x ∷ xs) found e h = grind (arith, take_first is_other (x ∷ xs), all_but is_literal (x ∷ xs))
+
+-- literals alone
+pub met_literals : (entries found : List Entry) → first_other entries ≡ None → met entries found ≡ overloaded entries found
+met_literals [] found h = refl
+met_literals (x ∷ xs) found h = grind (arith, all_but is_literal (x ∷ xs))
+
+-- regions behind regions
+pub seen_append : (name : List ℕ) (xs ys : List (List Named)) (found : List Entry) → seen name (xs ++ ys) found ≡ seen name xs (seen name ys found)
+seen_append name [] ys found = refl
+seen_append name (x ∷ xs) ys found = ap (met (own name x)) (seen_append name xs ys found)
+
+filter_both : {X : Type 0} (p : X → Bool) (xs ys : List X) → filter p (xs ++ ys) ≡ filter p xs ++ filter p ys
+filter_both p [] ys = refl
+filter_both p (x ∷ xs) ys = grind (arith, filter_both p xs ys)
+
+filter_twice : {X : Type 0} (p : X → Bool) (xs : List X) → filter p (filter p xs) ≡ filter p xs
+filter_twice p [] = refl
+filter_twice p (x ∷ xs) = grind (arith, filter_twice p xs)
+
+filter_all : {X : Type 0} (p : X → Bool) (xs : List X) → list_all p xs ≡ true → filter p xs ≡ xs
+filter_all p [] h = refl
+filter_all p (x ∷ xs) h = grind (arith, filter_all p xs)
+
+all_both : {X : Type 0} (p : X → Bool) (xs ys : List X) → list_all p xs ≡ true → list_all p ys ≡ true → list_all p (xs ++ ys) ≡ true
+all_both p [] ys h k = k
+all_both p (x ∷ xs) ys h k = grind (arith, all_both p xs ys)
+
+all_filter : {X : Type 0} (p : X → Bool) (xs : List X) → list_all p (filter p xs) ≡ true
+all_filter p [] = refl
+all_filter p (x ∷ xs) = grind (arith, all_filter p xs)
+
+all_literals : (entries : List Entry) → first_other entries ≡ None → list_all is_literal entries ≡ true
+all_literals entries h = grind (arith, all_but is_literal entries)
+
+-- one entry, or literals alone
+abbrev pub Alone : List Entry → Type 0
+Alone entries = (list_all is_literal entries ≡ true) ⊎ (length entries ≡ 1)
+
+overloaded_some : (x : Entry) (xs found : List Entry) → overloaded (x ∷ xs) found ≡ (x ∷ xs) ++ filter is_literal found
+overloaded_some x xs found = grind arith
+
+overloaded_alone : (entries found : List Entry) → list_all is_literal entries ≡ true → Alone found → Alone (overloaded entries found)
+overloaded_alone [] found h f = f
+overloaded_alone (x ∷ xs) found h f = inl (ap (list_all is_literal) (overloaded_some x xs found) ∙ all_both is_literal (x ∷ xs) (filter is_literal found) h (all_filter is_literal found))
+
+met_alone_at : (entries found : List Entry) (o : Option Entry) → first_other entries ≡ o → Alone found → Alone (met entries found)
+met_alone_at entries found None h f = rw (met_literals entries found h) (overloaded_alone entries found (all_literals entries h) f)
+met_alone_at entries found (Some e) h f = rw (met_other entries found e h) (inr refl)
+
+pub seen_alone : (name : List ℕ) (regions : List (List Named)) → Alone (seen name regions [])
+seen_alone name [] = inl refl
+seen_alone name (region ∷ around) = met_alone_at (own name region) (seen name around []) _ refl (seen_alone name around)
+
+overloaded_literals : (entries found : List Entry) → list_all is_literal entries ≡ true → filter is_literal (overloaded entries found) ≡ entries ++ filter is_literal found
+overloaded_literals [] found h = refl
+overloaded_literals (x ∷ xs) found h =
+    ap (filter is_literal) (overloaded_some x xs found) ∙ filter_both is_literal (x ∷ xs) (filter is_literal found)
+    ∙ ap (λ ys. ys ++ filter is_literal (filter is_literal found)) (filter_all is_literal (x ∷ xs) h)
+    ∙ ap (λ ys. (x ∷ xs) ++ ys) (filter_twice is_literal found)
+
+-- literals hide no literal
+pub met_keeps_literals : (entries found : List Entry) → first_other entries ≡ None → filter is_literal (met entries found) ≡ entries ++ filter is_literal found
+met_keeps_literals entries found h = rw (met_literals entries found h) (overloaded_literals entries found (all_literals entries h))
+
+pub met_undeclared : (entries found : List Entry) → entries ≡ [] → met entries found ≡ found
+met_undeclared entries found h = rw h refl

@@ -1,0 +1,6 @@
+pub mod Names
+pub mod Declarations
+pub mod Tables
+pub mod Hiding
+pub mod Nesting
+pub mod Standard

@@ -1,0 +1,61 @@
+//! A region that goes on another.
+
+ghost use Rattle.std.specs.Prelude.{◌≡◌, ◌++◌, ◌∷◌, [], IfOk, OnOk, OnErr, string_bytes};
+ghost use Rattle.std.specs.List.{list_any};
+ghost use Rattle.vhdl_scope.specs.Declarations.{own, is_other};
+ghost use Rattle.vhdl_scope.specs.Hiding.{met};
+ghost use Rattle.vhdl_scope.specs.Nesting.{whole};
+
+use crate::hiding::{has_other, met};
+use crate::region::Region;
+use std::alloc::{AllocError, Global};
+use vhdl_types::Entry;
+
+/// The region of an architecture, which goes on that of its entity: both are one region (12.1). Any other
+/// region goes on an empty one.
+#[derive(Debug, Drop)]
+pub struct Further {
+    /// The declarations of the entity.
+    pub base: Region,
+    /// Those behind them.
+    pub more: Region,
+}
+
+impl Further {
+    /// A region that goes on another.
+    pub fn new(alloc: Global, base: Region) -> Further
+        ensures { result ≡ record { base = base; more = [] } }
+    {
+        Further {
+            base,
+            more: Region::new(alloc),
+        }
+    }
+
+    /// Adds a declaration behind the others. Where memory runs out the region stays as it was.
+    pub fn add(&mut self, name: String, entry: Entry) -> Result<(), AllocError>
+        ensures ok { OnOk result (self.new ≡ record self.old { more = self.old.more ++ record { name = string_bytes name; entry = entry } ∷ [] }) }
+        ensures err { OnErr result (self.new ≡ self.old) }
+    {
+        self.more.add(name, entry)
+    }
+
+    /// Whether the region declares a name to be something that is no enumeration literal.
+    pub fn declares_other(&self, name: &str) -> bool
+        ensures { result ≡ list_any is_other (own name.now (whole self.now)) }
+    {
+        has_other(self.base.find(name)) || has_other(self.more.find(name))
+    }
+
+    /// What a name denotes in the region, where it denotes `found` around it.
+    pub fn seen(
+        &self,
+        alloc: Global,
+        name: &str,
+        found: Vec<Entry>,
+    ) -> Result<Vec<Entry>, AllocError>
+        ensures { IfOk result (λ seen. seen.items ≡ met (own name.now (whole self.now)) found.items) }
+    {
+        met(alloc, self.base.find(name), self.more.find(name), found)
+    }
+}

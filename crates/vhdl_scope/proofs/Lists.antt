@@ -1,7 +1,7 @@
 -- Lemmas on the lists of declarations and entries.
-use Rattle.std.proofs.Common.{◌≡◌, ℕ, Bool, true, List, [], ◌∷◌, ◌++◌, ◌⊎◌, inl, inr, refl, ◌∙◌, ap, arith, length, take, not, filter, find, Option}
-use Rattle.std.specs.Prelude.{Some, None, is_none, option_to_list}
-use Rattle.std.specs.List.{list_all}
+use Rattle.std.proofs.Common.{◌≡◌, ℕ, ◌-◌, Bool, true, List, [], ◌∷◌, ◌++◌, ◌⊎◌, inl, inr, refl, ◌∙◌, ap, arith, length, take, not, filter, find, Option}
+use Rattle.std.specs.Prelude.{Some, None, is_none, option_to_list, slice_get}
+use Rattle.std.specs.List.{list_all, last_or}
 use Rattle.vhdl_types.specs.declared.entry.Entry.{Entry}
 use Rattle.vhdl_types.specs.Entries.{is_literal}
 use Rattle.vhdl_scope.specs.Declarations.{Named, own, is_other}
@@ -98,3 +98,16 @@ met_keeps_literals entries found h = rw (met_literals entries found h) (overload
 
 pub met_undeclared : (entries found : List Entry) → entries ≡ [] → met entries found ≡ found
 met_undeclared entries found h = rw h refl
+
+-- the last of a list
+pub last_here : {X : Type 0} (o : Option X) (x : X) (xs : List X) → slice_get (x ∷ xs) (length xs) ≡ last_or o (x ∷ xs)
+last_here o x [] = refl
+last_here o x (y ∷ ys) = last_here (Some x) y ys
+
+pub last_some : {X : Type 0} (o : Option X) (xs : List X) (x : X) → Some x ≡ slice_get xs (length xs - 1) → Some x ≡ last_or o xs
+last_some o [] x h = cc
+last_some o (y ∷ ys) x h = grind (arith, last_here o y ys)
+
+pub last_append : {X : Type 0} (o : Option X) (xs ys : List X) → last_or (last_or o xs) ys ≡ last_or o (xs ++ ys)
+last_append o [] ys = refl
+last_append o (x ∷ xs) ys = last_append (Some x) xs ys

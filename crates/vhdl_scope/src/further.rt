@@ -1,7 +1,7 @@
 //! A region that goes on another.
 
 ghost use Rattle.std.specs.Prelude.{◌≡◌, ◌++◌, ◌∷◌, [], IfOk, OnOk, OnErr, string_bytes};
-ghost use Rattle.std.specs.List.{list_any};
+ghost use Rattle.std.specs.List.{list_any, last_or};
 ghost use Rattle.vhdl_scope.specs.Declarations.{own, is_other};
 ghost use Rattle.vhdl_scope.specs.Hiding.{met};
 ghost use Rattle.vhdl_scope.specs.Nesting.{whole};
@@ -10,6 +10,16 @@ use crate::hiding::{has_other, met};
 use crate::region::Region;
 use std::alloc::{AllocError, Global};
 use vhdl_types::Entry;
+
+// The last of some entries, or else what was the last before them.
+fn last_of(entries: &[Entry], before: Option<Entry>) -> Option<Entry>
+    ensures { result ≡ last_or before entries.now }
+{
+    match entries.last() {
+        Some(entry) => Some(*entry),
+        None => before,
+    }
+}
 
 /// The region of an architecture, which goes on that of its entity: both are one region (12.1). Any other
 /// region goes on an empty one.
@@ -45,6 +55,14 @@ impl Further {
         ensures { result ≡ list_any is_other (own name.now (whole self.now)) }
     {
         has_other(self.base.find(name)) || has_other(self.more.find(name))
+    }
+
+    /// What the region declared a name to be last, if it declares it.
+    pub fn last(&self, name: &str) -> Option<Entry>
+        ensures { result ≡ last_or None (own name.now (whole self.now)) }
+    {
+        let before = last_of(self.base.find(name), None);
+        last_of(self.more.find(name), before)
     }
 
     /// What a name denotes in the region, where it denotes `found` around it.

@@ -1,7 +1,7 @@
 //! The open regions.
 
 ghost use Rattle.std.specs.Prelude.{◌≡◌, ◌++◌, ◌∷◌, [], IfOk, OnOk, OnErr, string_bytes};
-ghost use Rattle.std.specs.List.{list_any};
+ghost use Rattle.std.specs.List.{list_any, last_or};
 ghost use Rattle.vhdl_scope.specs.Declarations.{own, is_other};
 ghost use Rattle.vhdl_scope.specs.Hiding.{met, seen};
 ghost use Rattle.vhdl_scope.specs.Nesting.{OpenRegion, Nested, beginning, outermost, opened, closed, declared_in, declared, loop_opened_in, loop_opened, loop_closed_in, loop_closed, regions_in, whole, meanings, declares_other};
@@ -81,6 +81,12 @@ impl Open {
         ensures { result ≡ list_any is_other (own name.now (whole self.now.region)) }
     {
         self.region.declares_other(name)
+    }
+
+    fn last(&self, name: &str) -> Option<Entry>
+        ensures { result ≡ last_or None (own name.now (whole self.now.region)) }
+    {
+        self.region.last(name)
     }
 
     fn into_region(self) -> Further
@@ -191,6 +197,13 @@ impl Regions {
         ensures { result ≡ declares_other self.now name.now }
     {
         self.inner.declares_other(name)
+    }
+
+    /// What the innermost region declared a name to be last, if it declares it.
+    pub fn last(&self, name: &str) -> Option<Entry>
+        ensures { result ≡ last_or None (own name.now (whole self.now.inner.region)) }
+    {
+        self.inner.last(name)
     }
 
     /// What a name denotes, by hiding and overloading (12.3 to 12.5): several entries only where all are

@@ -1,5 +1,5 @@
 mod Known
 mod Texts
-pub mod KnownParts
-pub mod Taking
-pub mod Turns
+mod Turns
+mod KnownParts
+mod Taking

@@ -1,5 +1,7 @@
 use Rattle.std.specs.Prelude.{◌≡◌, ℕ, ◌<◌, ◌≤◌, List, ◌++◌, take, length, Option, Some, None, Result, Ok, Err, ◌⊎◌, codes, decimal}
 use Rattle.sim_design.specs.declared.Design.{Design}
+use Rattle.vhdl_types.specs.Faults.{number_of}
+use Rattle.vhdl_types.specs.declared.fault.Fault.{Fault}
 use Rattle.sim_session.specs.Text.{FirstForm, IsRefusedText}
 use Rattle.sim_session.specs.declared.fault.DesignFault.{DesignFault}
 use Rattle.sim_session.specs.declared.fault.DesignFault.TheVariants as design
@@ -20,12 +22,17 @@ use Rattle.sim_command.specs.Words.{Command, Run}
 abbrev pub most_bytes : ℕ
 most_bytes = 1048576
 
+-- the number of a static rule, and the place where it is broken
+abbrev pub rule_words : Fault → List ℕ
+rule_words f = (codes "Static " ++ decimal (number_of f.rule)) ++ (codes " " ++ decimal f.place)
+
 -- the words that are said of a text that can't be run
 abbrev pub words_of : DesignFault → List ℕ
 words_of (design.BadByte place) = codes "BadByte " ++ decimal place
 words_of (design.BadLiteral place) = codes "BadLiteral " ++ decimal place
 words_of (design.Syntax token) = codes "Syntax " ++ decimal token
 words_of (design.Nesting token) = codes "Nesting " ++ decimal token
+words_of (design.Static f) = rule_words f
 words_of design.NotBuilt = codes "NotBuilt"
 
 -- the line that is said of a fault

@@ -8,6 +8,7 @@ use sim_host::ReadError;
 use sim_memory::NoMemory;
 use sim_session::{DesignFault, SessionFault};
 use std::alloc::Global;
+use vhdl_types::Fault;
 
 /// Why a command wasn't done.
 #[derive(Clone, Copy, Debug, PartialEq, Eq)]
@@ -65,6 +66,13 @@ fn put_numbered(text: &mut Vec<u8>, word: &[u8], number: u64) -> Result<(), NoMe
     put_number(text, number)
 }
 
+fn put_rule(text: &mut Vec<u8>, fault: Fault) -> Result<(), NoMemory>
+    ensures { OnOk result (text.new.items ≡ text.old.items ++ outcome.rule_words fault) }
+{
+    put_numbered(text, b"Static ", u64::from(fault.rule.number()))?;
+    put_numbered(text, b" ", u64::from(fault.place))
+}
+
 fn put_words(text: &mut Vec<u8>, fault: DesignFault) -> Result<(), NoMemory>
     ensures { OnOk result (text.new.items ≡ text.old.items ++ outcome.words_of fault) }
 {
@@ -73,6 +81,7 @@ fn put_words(text: &mut Vec<u8>, fault: DesignFault) -> Result<(), NoMemory>
         DesignFault::BadLiteral { place } => put_numbered(text, b"BadLiteral ", u64::from(place)),
         DesignFault::Syntax { token } => put_numbered(text, b"Syntax ", token as u64),
         DesignFault::Nesting { token } => put_numbered(text, b"Nesting ", token as u64),
+        DesignFault::Static(fault) => put_rule(text, fault),
         DesignFault::NotBuilt => put(text, b"NotBuilt"),
     }
 }

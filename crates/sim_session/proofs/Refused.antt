@@ -1,5 +1,5 @@
 -- Why a text isn't read: each error of a reader is the text's own.
-use Rattle.std.proofs.Common.{◌≡◌, ◌⊎◌, ℕ, List, Result, Ok, Err, IsErrOf, IsErrAnd, inl, inr, refl, subst}
+use Rattle.std.proofs.Common.{◌≡◌, ◌⊎◌, ℕ, List, None, Result, Ok, Err, IsErrOf, IsErrAnd, inl, inr, refl, subst}
 use Rattle.std.proofs.lemmas.Result.{err_from_is_err_and}
 use Rattle.vhdl_tokens.specs.declared.token.Token.{Token}
 use Rattle.vhdl_tokens.specs.declared.token.TokenError.{TokenError}
@@ -15,9 +15,12 @@ use Rattle.sim_design.specs.declared.Design.{Design}
 use Rattle.first_form.specs.FirstForm.{IsForm}
 use Rattle.first_form.specs.declared.fault.FormError.{FormError}
 use Rattle.first_form.specs.declared.fault.FormError.TheVariants as form
+use Rattle.vhdl_names.specs.Static.{Static}
+use Rattle.sim_session.specs.declared.fault.DesignFault.TheVariants as design
 use Rattle.sim_session.specs.declared.fault.SessionFault.{SessionFault}
+use Rattle.sim_session.specs.declared.fault.SessionFault.TheVariants as fault
 use Rattle.sim_session.specs.Faults.{fault_of_tokens, fault_of_syntax, fault_of_form}
-use Rattle.sim_session.specs.Text.{IsTreeOf, IsRead}
+use Rattle.sim_session.specs.Text.{IsTreeOf, IsRead, MeetsRules}
 
 abbrev failed : {A E : Type 0} → E → Result A E
 failed e = Err e
@@ -65,12 +68,26 @@ module _ (text : List ℕ) (list : List Token) (spelled : Tokens text list) (alo
     pub is_tree : IsTreeOf text tree
     is_tree = record { tokens = list; spelled = spelled; sentence = judged.0; nests = judged.1 }
 
-    pub form_refused : (e : FormError) → (e ≡ form.NotBuilt → (d : Design) → IsForm text tree d → ⊥) → IsRead (Err (fault_of_form e)) text
-    form_refused form.NotBuilt none = record {
-      why = record { tree = tree; reads = is_tree; none = none refl };
+    -- the rule that is broken first is the text's
+    pub rule_refused : (e : SessionFault) → MeetsRules (Err e) text tree → IsRead (Err e) text
+    rule_refused (fault.Design (design.Static f)) h = record {
+      why = record { tree = tree; reads = is_tree; breaks = h };
+      none = λ d g. let m = moved g.tree g.reads in (subst (λ t. Static text t None) (one g.tree m.0 m.1) g.meets) f h.0;
+    }
+    rule_refused (fault.Design (design.BadByte place)) h = absurd h
+    rule_refused (fault.Design (design.BadLiteral place)) h = absurd h
+    rule_refused (fault.Design (design.Syntax place)) h = absurd h
+    rule_refused (fault.Design (design.Nesting place)) h = absurd h
+    rule_refused (fault.Design design.NotBuilt) h = absurd h
+    rule_refused fault.Host h = absurd h
+    rule_refused fault.NoMemory h = tt
+
+    pub form_refused : Static text tree None → (e : FormError) → (e ≡ form.NotBuilt → (d : Design) → IsForm text tree d → ⊥) → IsRead (Err (fault_of_form e)) text
+    form_refused meets form.NotBuilt none = record {
+      why = record { tree = tree; reads = is_tree; meets = meets; none = none refl };
       none = λ d f. let m = moved f.tree f.reads in none refl d (subst (λ t. IsForm text t d) (one f.tree m.0 m.1) f.form);
     }
-    form_refused form.NoMemory none = tt
+    form_refused meets form.NoMemory none = tt
 
-    pub form_found : (d : Design) → IsForm text tree d → IsRead (Ok d) text
-    form_found d h = record { tree = tree; reads = is_tree; form = h }
+    pub form_found : Static text tree None → (d : Design) → IsForm text tree d → IsRead (Ok d) text
+    form_found meets d h = record { tree = tree; reads = is_tree; meets = meets; form = h }

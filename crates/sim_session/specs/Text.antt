@@ -1,11 +1,13 @@
 -- What the text of a design file comes to before it runs: the design of the first form, or why there is none.
-use Rattle.std.specs.Prelude.{ℕ, List, Result, Ok, Err}
+use Rattle.std.specs.Prelude.{ℕ, List, Option, Some, None, Result, Ok, Err}
 use Rattle.vhdl_tokens.specs.declared.token.Token.{Token}
 use Rattle.vhdl_tokens.specs.declared.token.TokenError.TheVariants as token_error
 use Rattle.vhdl_tokens.specs.Text.{Tokens, IsFault}
 use Rattle.vhdl_tree.specs.declared.units.DesignFile.{DesignFile}
 use Rattle.vhdl_tree.specs.Units.{Sentence}
 use Rattle.vhdl_tree.specs.Faults.{NestsWell, IsSyntaxFault, IsNestingFault}
+use Rattle.vhdl_types.specs.declared.fault.Fault.{Fault}
+use Rattle.vhdl_names.specs.Static.{Static}
 use Rattle.sim_design.specs.declared.Design.{Design}
 use Rattle.first_form.specs.FirstForm.{IsForm}
 use Rattle.sim_session.specs.declared.fault.DesignFault.{DesignFault}
@@ -20,10 +22,11 @@ pub record IsTreeOf (text : List ℕ) (tree : DesignFile) : Type 0 where
   pub sentence : Sentence tokens tree
   pub nests : NestsWell tokens
 
--- the text is of the first form, and the design is what it stands for
+-- the text breaks no static rule and is of the first form, and the design is what it stands for
 pub record FirstForm (text : List ℕ) (d : Design) : Type 0 where
   pub tree : DesignFile
   pub reads : IsTreeOf text tree
+  pub meets : Static text tree None
   pub form : IsForm text tree d
 
 -- a fault of the text's tokens
@@ -32,10 +35,17 @@ pub record TokensBreak (text : List ℕ) (Breaks : List Token → Type 0) : Type
   pub spelled : Tokens text tokens
   pub breaks : Breaks tokens
 
--- the text is of the language, and of no form that can be run so far
+-- the text is of the language, and this is the static rule that it breaks first
+pub record IsBroken (text : List ℕ) (f : Fault) : Type 0 where
+  pub tree : DesignFile
+  pub reads : IsTreeOf text tree
+  pub breaks : Static text tree (Some f)
+
+-- the text is of the language and breaks no static rule, and is of no form that can be run so far
 pub record IsUnbuilt (text : List ℕ) : Type 0 where
   pub tree : DesignFile
   pub reads : IsTreeOf text tree
+  pub meets : Static text tree None
   pub none : (d : Design) → IsForm text tree d → ⊥
 
 -- why the text of a design file can't be run
@@ -44,7 +54,15 @@ IsDesignFault text (design.BadByte place) = IsFault text (token_error.BadByte pl
 IsDesignFault text (design.BadLiteral place) = IsFault text (token_error.BadLiteral place)
 IsDesignFault text (design.Syntax token) = TokensBreak text (λ tokens. IsSyntaxFault tokens token)
 IsDesignFault text (design.Nesting token) = TokensBreak text (λ tokens. IsNestingFault tokens token)
+IsDesignFault text (design.Static f) = IsBroken text f
 IsDesignFault text design.NotBuilt = IsUnbuilt text
+
+-- a tree breaks no static rule, or this one first
+abbrev pub MeetsRules : Result (Unit {0}) SessionFault → List ℕ → DesignFile → Type 0
+MeetsRules (Ok done) text tree = Static text tree None
+MeetsRules (Err (fault.Design (design.Static f))) text tree = Static text tree (Some f)
+MeetsRules (Err fault.NoMemory) text tree = Unit {0}
+MeetsRules (Err _) text tree = ⊥
 
 -- a text is refused for its cause, and is not of the first form
 pub record IsRefusedText (text : List ℕ) (f : DesignFault) : Type 0 where

@@ -10,6 +10,7 @@ use std::error::Error;
 use std::fmt;
 use vhdl_reader::SyntaxError;
 use vhdl_tokens::TokenError;
+use vhdl_types::Fault;
 
 /// Why the text of a design file can't be run.
 #[derive(Clone, Copy, Debug, PartialEq, Eq)]
@@ -34,7 +35,9 @@ pub enum DesignFault {
         /// The number of the token, from 0.
         token: usize,
     },
-    /// The text is of the language, and not of a form that can be run so far.
+    /// The design breaks a static rule: the one that is broken first in the text, and its place.
+    Static(Fault),
+    /// The text is of the language and breaks no static rule, and isn't of a form that can be run so far.
     NotBuilt,
 }
 
@@ -56,6 +59,14 @@ impl fmt::Display for DesignFault {
             DesignFault::BadLiteral { place } => write!(f, "the token at {place} is malformed"),
             DesignFault::Syntax { token } => write!(f, "no design file goes on with token {token}"),
             DesignFault::Nesting { token } => write!(f, "token {token} nests too deep"),
+            DesignFault::Static(fault) => {
+                write!(
+                    f,
+                    "rule {} is broken at {}",
+                    fault.rule.number(),
+                    fault.place
+                )
+            }
             DesignFault::NotBuilt => write!(f, "the design can't be run so far"),
         }
     }
@@ -72,6 +83,14 @@ impl fmt::Display for SessionFault {
 }
 
 impl Error for SessionFault {}
+
+impl From<AllocError> for SessionFault {
+    ghost from_gives = { λ _ f. f ≡ faults.NoMemory };
+
+    fn from(_error: AllocError) -> SessionFault {
+        SessionFault::NoMemory
+    }
+}
 
 impl From<NoMemory> for SessionFault {
     ghost from_gives = { λ _ f. f ≡ faults.NoMemory };

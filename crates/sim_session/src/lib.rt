@@ -12,4 +12,6 @@ pub use running::{Job, run_session};
 pub use sim_memory::NoMemory;
 
 #[cfg(test)]
+mod rules;
+#[cfg(test)]
 mod tests;

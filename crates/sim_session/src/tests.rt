@@ -3,6 +3,7 @@
 use crate::{DesignFault, SessionFault, read_text};
 use sim_design::Design;
 use std::test::Fail;
+use vhdl_types::{Fault, Rule};
 
 const PULSE: &str =
     "entity top is end;\narchitecture a of top is\n  signal s : bit;\nbegin\n  s <= '1' after 2 ns, '0' after 5 ns;\nend;\n";
@@ -61,7 +62,10 @@ const WHOLE: [(&str, DesignFault); 17] = [
     // another name after `of`, and names that can be none
     (
         "entity e is end; architecture a of f is begin end;",
-        DesignFault::NotBuilt,
+        DesignFault::Static(Fault {
+            place: 35,
+            rule: Rule::EntityMissing,
+        }),
     ),
     (
         "entity wait is end; architecture a of wait is begin end;",
@@ -98,7 +102,10 @@ const WHOLE: [(&str, DesignFault); 17] = [
     // the order, and the end
     (
         "architecture a of e is begin end; entity e is end;",
-        DesignFault::NotBuilt,
+        DesignFault::Static(Fault {
+            place: 18,
+            rule: Rule::EntityMissing,
+        }),
     ),
     (
         "entity e is end e; architecture a of e is begin end;",
@@ -124,7 +131,14 @@ const WHOLE: [(&str, DesignFault); 17] = [
 
 /// Declarations and statements of texts that can't be run.
 const BODIES: [(&str, &str, DesignFault); 30] = [
-    ("signal s : bit; signal S : bit;", "", DesignFault::NotBuilt),
+    (
+        "signal s : bit; signal S : bit;",
+        "",
+        DesignFault::Static(Fault {
+            place: 63,
+            rule: Rule::DeclaredTwice,
+        }),
+    ),
     (
         "signal process : bit;",
         "",
@@ -135,12 +149,22 @@ const BODIES: [(&str, &str, DesignFault); 30] = [
     ("signal s : boolean;", "", DesignFault::NotBuilt),
     ("signal s, t : bit;", "", DesignFault::NotBuilt),
     ("signal s : bit := '0';", "", DesignFault::NotBuilt),
-    ("signal s : bit(0 to 1);", "", DesignFault::NotBuilt),
+    (
+        "signal s : bit(0 to 1);",
+        "",
+        DesignFault::Static(Fault {
+            place: 51,
+            rule: Rule::Constraint,
+        }),
+    ),
     ("signal s : bit", "", DesignFault::Syntax { token: 14 }),
     (
         "signal s : bit;",
         "t <= '1' after 1 fs;",
-        DesignFault::NotBuilt,
+        DesignFault::Static(Fault {
+            place: 62,
+            rule: Rule::Undeclared,
+        }),
     ),
     (
         "signal s : bit;",
@@ -170,7 +194,10 @@ const BODIES: [(&str, &str, DesignFault); 30] = [
     (
         "signal s : bit;",
         "s <= '2' after 1 fs;",
-        DesignFault::NotBuilt,
+        DesignFault::Static(Fault {
+            place: 67,
+            rule: Rule::Type,
+        }),
     ),
     (
         "signal s : bit;",
@@ -180,7 +207,10 @@ const BODIES: [(&str, &str, DesignFault); 30] = [
     (
         "signal s : bit;",
         "s <= 1 after 1 fs;",
-        DesignFault::NotBuilt,
+        DesignFault::Static(Fault {
+            place: 67,
+            rule: Rule::Type,
+        }),
     ),
     (
         "signal s : bit;",
@@ -191,12 +221,18 @@ const BODIES: [(&str, &str, DesignFault); 30] = [
     (
         "signal s : bit;",
         "s <= '1' after 1;",
-        DesignFault::NotBuilt,
+        DesignFault::Static(Fault {
+            place: 77,
+            rule: Rule::Type,
+        }),
     ),
     (
         "signal s : bit;",
         "s <= '1' after 1 kg;",
-        DesignFault::NotBuilt,
+        DesignFault::Static(Fault {
+            place: 79,
+            rule: Rule::Number,
+        }),
     ),
     (
         "signal s : bit;",
@@ -226,17 +262,26 @@ const BODIES: [(&str, &str, DesignFault); 30] = [
     (
         "signal s : bit;",
         "s <= '1' after 9223372036854775808 fs;",
-        DesignFault::NotBuilt,
+        DesignFault::Static(Fault {
+            place: 77,
+            rule: Rule::Number,
+        }),
     ),
     (
         "signal s : bit;",
         "s <= '1' after 154 min;",
-        DesignFault::NotBuilt,
+        DesignFault::Static(Fault {
+            place: 77,
+            rule: Rule::Number,
+        }),
     ),
     (
         "signal s : bit;",
         "s <= '1' after 18446744073709551617 fs;",
-        DesignFault::NotBuilt,
+        DesignFault::Static(Fault {
+            place: 77,
+            rule: Rule::Number,
+        }),
     ),
 ];
 

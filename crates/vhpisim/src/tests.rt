@@ -158,6 +158,14 @@ const REFUSED: [(&str, &str); 8] = [
     ),
     (
         "entity e is end; architecture a of f is begin end;",
+        "vhpisim: design: Static 2 35\n",
+    ),
+    (
+        "entity e is end; architecture a of e is signal s : bit := x; begin end;",
+        "vhpisim: design: Static 5 58\n",
+    ),
+    (
+        "entity e is end; architecture b of e is begin end; architecture a of e is begin end;",
         "vhpisim: design: NotBuilt\n",
     ),
 ];

@@ -13,6 +13,3 @@ mod telling;
 pub use checker::Checker;
 pub use interface::Interface;
 pub use surroundings::architecture_key;
-
-#[cfg(test)]
-mod tests;

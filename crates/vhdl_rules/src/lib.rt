@@ -25,8 +25,3 @@ pub use told::{
 };
 pub use units::{attribute_faults, end_faults, is_word, library_faults, use_faults};
 pub use values::{asked, asked_optional, tested, valued};
-
-#[cfg(test)]
-mod declaration_tests;
-#[cfg(test)]
-mod statement_tests;

@@ -6,4 +6,4 @@ use Rattle.vhdl_names.specs.Units.{of_unit}
 use Rattle.vhdl_names.proofs.units.check_units.Given as goal
 
 abbrev pub invariant-loop-unit : goal.invariant-loop-unit
-invariant-loop-unit l = walk (flat_map (of_unit l.fn.text.now) (drop l.unit-index l.units)) l.checker ≡ walk (flat_map (of_unit l.fn.text.now) l.units) l.initial.checker
+invariant-loop-unit l = walk (flat_map (of_unit l.fn.text) (drop l.unit-index l.units)) l.checker ≡ walk (flat_map (of_unit l.fn.text) l.units) l.initial.checker

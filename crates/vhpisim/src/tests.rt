@@ -139,7 +139,7 @@ fn usage(rt: HostRuntime) -> Result<(), Fail> {
 }
 
 // Texts that can't be run, and the line that is said.
-const REFUSED: [(&str, &str); 8] = [
+const REFUSED: [(&str, &str); 10] = [
     ("x", "vhpisim: design: Syntax 0\n"),
     ("", "vhpisim: design: Syntax 0\n"),
     (

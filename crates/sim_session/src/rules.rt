@@ -1,12 +1,13 @@
 //! The static rules: texts that break one, with the place marked, and texts that break none.
 
 use crate::{DesignFault, SessionFault, read_text};
+use std::alloc::Global;
 use std::test::Fail;
 
 /// The number of the rule, and a text with `^` before the place where it is broken first.
 type Refused = (u8, &'static str);
 
-const REFUSED: [Refused; 217] = [
+const UNITS: [Refused; 32] = [
     // two entities
     (1, "entity e is end; entity ^E is end;"),
     // two architectures
@@ -57,6 +58,89 @@ const REFUSED: [Refused; 217] = [
         3,
         "entity e is end; architecture a of e is begin process begin c : case true is when others => null; end case ^d; wait; end process; end;",
     ),
+    // a library
+    (7, "library ^foo; entity e is end; "),
+    // the second library
+    (7, "library ieee, ^foo; entity e is end; "),
+    // a package
+    (7, "use ^ieee.numeric_std.all; entity e is end; "),
+    // a package of another library
+    (7, "use ^work.std_logic_1164.all; entity e is end; "),
+    // a package of std
+    (7, "use ^std.textio.all; entity e is end; "),
+    // no such entity
+    (
+        20,
+        "entity e is end; architecture a of e is begin x : entity work.^c; end;",
+    ),
+    // an entity that stands behind
+    (
+        20,
+        "entity e is end; architecture a of e is begin x : entity ^c; end; entity c is end;",
+    ),
+    // another library
+    (
+        20,
+        "entity c is generic (g : integer := 1); port (i : in bit; o : out bit; io : inout bit); end; architecture a of c is begin end; entity e is end; architecture a of e is begin x : entity ieee.^c; end;",
+    ),
+    // no such architecture
+    (
+        20,
+        "entity c is generic (g : integer := 1); port (i : in bit; o : out bit; io : inout bit); end; architecture a of c is begin end; entity e is end; architecture a of e is signal s, t, u : bit; begin x : entity work.c(^b) port map (s, t, u); end;",
+    ),
+    // another attribute
+    (
+        22,
+        "entity e is end; architecture a of e is attribute ^keep of a : architecture is \"VHPI lib model\"; begin end;",
+    ),
+    // another architecture
+    (
+        22,
+        "entity e is end; architecture a of e is attribute ^foreign of b : architecture is \"VHPI lib model\"; begin end;",
+    ),
+    // no string literal
+    (
+        22,
+        "entity e is end; architecture a of e is attribute ^foreign of a : architecture is 1; begin end;",
+    ),
+    // two words
+    (
+        22,
+        "entity e is end; architecture a of e is attribute ^foreign of a : architecture is \"VHPI model\"; begin end;",
+    ),
+    // four words
+    (
+        22,
+        "entity e is end; architecture a of e is attribute ^foreign of a : architecture is \"VHPI lib model x\"; begin end;",
+    ),
+    // another first word
+    (
+        22,
+        "entity e is end; architecture a of e is attribute ^foreign of a : architecture is \"vhpi lib model\"; begin end;",
+    ),
+    // twice
+    (
+        22,
+        "entity e is end; architecture a of e is attribute foreign of a : architecture is \"VHPI lib model\"; attribute ^foreign of a : architecture is \"VHPI lib model\"; begin end;",
+    ),
+    // a signal beside
+    (
+        22,
+        "entity e is end; architecture a of e is attribute ^foreign of a : architecture is \"VHPI lib model\"; signal s : bit; begin end;",
+    ),
+    // another attribute beside
+    (
+        22,
+        "entity e is end; architecture a of e is attribute ^foreign of a : architecture is \"VHPI lib model\"; attribute keep of a : architecture is \"x\"; begin end;",
+    ),
+    // a statement beside
+    (
+        22,
+        "entity e is end; architecture a of e is attribute ^foreign of a : architecture is \"VHPI lib model\"; begin process begin wait; end process; end;",
+    ),
+];
+
+const DECLARATIONS: [Refused; 31] = [
     // signals
     (
         4,
@@ -119,6 +203,93 @@ const REFUSED: [Refused; 217] = [
         4,
         "entity e is end; architecture a of e is begin process begin l : loop ^l : wait; end loop; end process; end;",
     ),
+    // a range on an array type
+    (
+        8,
+        "entity e is end; architecture a of e is subtype t is ^bit_vector range 0 to 3; begin end;",
+    ),
+    // bounds on a scalar type
+    (
+        8,
+        "entity e is end; architecture a of e is signal v : ^integer(0 to 3); begin end;",
+    ),
+    // bounds on an array with bounds
+    (
+        8,
+        "entity e is end; architecture a of e is subtype t is bit_vector(0 to 3); signal v : ^t(0 to 3); begin end;",
+    ),
+    // a range on STD_LOGIC
+    (
+        8,
+        "entity e is end; architecture a of e is signal s : ^std_logic range '0' to '1'; begin end;",
+    ),
+    // a range on a subtype of STD_LOGIC
+    (
+        8,
+        "entity e is end; architecture a of e is subtype t is std_logic; signal s : ^t range '0' to '1'; begin end;",
+    ),
+    // a bound that isn't static
+    (
+        8,
+        "entity e is end; architecture a of e is signal n : integer; signal v : bit_vector(0 to ^n); begin end;",
+    ),
+    // a left bound that isn't static
+    (
+        8,
+        "entity e is end; architecture a of e is begin process variable n : integer; variable v : integer range ^n to 3; begin wait; end process; end;",
+    ),
+    // a function in a bound
+    (
+        8,
+        "entity e is end; architecture a of e is type t is (x, y); signal s : integer range ^t'pos(x) to 3; begin end;",
+    ),
+    // a signal
+    (
+        9,
+        "entity e is end; architecture a of e is signal ^v : bit_vector; begin end;",
+    ),
+    // a port
+    (9, "entity e is port (^p : in string); end;"),
+    // a subtype without bounds
+    (
+        9,
+        "entity e is end; architecture a of e is subtype t is std_logic_vector; signal ^v, w : t; begin end;",
+    ),
+    // a variable
+    (
+        9,
+        "entity e is end; architecture a of e is begin process variable ^v : integer_vector; begin wait; end process; end;",
+    ),
+    // a signal
+    (
+        24,
+        "entity e is end; architecture a of e is signal s : bit; signal t : bit := ^s; begin end;",
+    ),
+    // an operand
+    (
+        24,
+        "entity e is end; architecture a of e is signal s : bit; constant c : bit := ^not s; begin end;",
+    ),
+    // a variable
+    (
+        24,
+        "entity e is end; architecture a of e is begin process variable v : bit; variable w : bit := ^v; begin wait; end process; end;",
+    ),
+    // a port's default
+    (24, "entity e is port (p : in bit; q : in bit := ^p); end;"),
+    // an event
+    (
+        24,
+        "entity e is end; architecture a of e is signal s : bit; signal b : boolean := ^s'event; begin end;",
+    ),
+    // a generic's actual
+    (
+        24,
+        "entity c is generic (g : integer := 1); port (i : in bit; o : out bit; io : inout bit); end; architecture a of c is begin end; entity e is end; architecture a of e is signal s, t, u : bit; signal n : integer; begin x : entity work.c generic map (^n) port map (s, t, u); end;",
+    ),
+];
+
+const NAMES: [Refused; 21] = [
     // a value
     (
         5,
@@ -224,6 +395,9 @@ const REFUSED: [Refused; 217] = [
         5,
         "entity e is end; architecture a of e is signal s : bit; begin s(^x) <= '1'; end;",
     ),
+];
+
+const KINDS: [Refused; 22] = [
     // a type as a value
     (
         6,
@@ -334,73 +508,9 @@ const REFUSED: [Refused; 217] = [
         6,
         "entity e is end; architecture a of e is begin ^true(x) <= '1'; end;",
     ),
-    // a library
-    (7, "library ^foo; entity e is end; "),
-    // the second library
-    (7, "library ieee, ^foo; entity e is end; "),
-    // a package
-    (7, "use ^ieee.numeric_std.all; entity e is end; "),
-    // a package of another library
-    (7, "use ^work.std_logic_1164.all; entity e is end; "),
-    // a package of std
-    (7, "use ^std.textio.all; entity e is end; "),
-    // a range on an array type
-    (
-        8,
-        "entity e is end; architecture a of e is subtype t is ^bit_vector range 0 to 3; begin end;",
-    ),
-    // bounds on a scalar type
-    (
-        8,
-        "entity e is end; architecture a of e is signal v : ^integer(0 to 3); begin end;",
-    ),
-    // bounds on an array with bounds
-    (
-        8,
-        "entity e is end; architecture a of e is subtype t is bit_vector(0 to 3); signal v : ^t(0 to 3); begin end;",
-    ),
-    // a range on STD_LOGIC
-    (
-        8,
-        "entity e is end; architecture a of e is signal s : ^std_logic range '0' to '1'; begin end;",
-    ),
-    // a range on a subtype of STD_LOGIC
-    (
-        8,
-        "entity e is end; architecture a of e is subtype t is std_logic; signal s : ^t range '0' to '1'; begin end;",
-    ),
-    // a bound that isn't static
-    (
-        8,
-        "entity e is end; architecture a of e is signal n : integer; signal v : bit_vector(0 to ^n); begin end;",
-    ),
-    // a left bound that isn't static
-    (
-        8,
-        "entity e is end; architecture a of e is begin process variable n : integer; variable v : integer range ^n to 3; begin wait; end process; end;",
-    ),
-    // a function in a bound
-    (
-        8,
-        "entity e is end; architecture a of e is type t is (x, y); signal s : integer range ^t'pos(x) to 3; begin end;",
-    ),
-    // a signal
-    (
-        9,
-        "entity e is end; architecture a of e is signal ^v : bit_vector; begin end;",
-    ),
-    // a port
-    (9, "entity e is port (^p : in string); end;"),
-    // a subtype without bounds
-    (
-        9,
-        "entity e is end; architecture a of e is subtype t is std_logic_vector; signal ^v, w : t; begin end;",
-    ),
-    // a variable
-    (
-        9,
-        "entity e is end; architecture a of e is begin process variable ^v : integer_vector; begin wait; end process; end;",
-    ),
+];
+
+const OPERANDS: [Refused; 22] = [
     // an initial value
     (
         10,
@@ -511,6 +621,9 @@ const REFUSED: [Refused; 217] = [
         10,
         "entity e is end; architecture a of e is signal t : time; begin t <= ^t * t; end;",
     ),
+];
+
+const PLACES: [Refused; 22] = [
     // a time as the exponent
     (
         10,
@@ -621,6 +734,9 @@ const REFUSED: [Refused; 217] = [
         10,
         "entity e is end; architecture a of e is type t is (x, y); signal s : bit := ^x; begin end;",
     ),
+];
+
+const STATEMENTS: [Refused; 24] = [
     // a constant
     (
         11,
@@ -741,6 +857,9 @@ const REFUSED: [Refused; 217] = [
         15,
         "entity e is end; architecture a of e is begin process variable v : bit; begin case v is when '0' => null; when '1' | ^others => null; end case; wait; end process; end;",
     ),
+];
+
+const VALUES: [Refused; 23] = [
     // both forms
     (
         16,
@@ -826,6 +945,39 @@ const REFUSED: [Refused; 217] = [
         17,
         "entity e is end; architecture a of e is signal s : bit; signal n : integer; begin n <= s'^pos(s); end;",
     ),
+    // an integer
+    (
+        23,
+        "entity e is end; architecture a of e is signal n : integer := ^2147483648; begin end;",
+    ),
+    // a time
+    (
+        23,
+        "entity e is end; architecture a of e is signal t : time := ^9223372036854775808 fs; begin end;",
+    ),
+    // a time in hours
+    (
+        23,
+        "entity e is end; architecture a of e is signal t : time := ^3 hr; begin end;",
+    ),
+    // an unknown unit
+    (
+        23,
+        "entity e is end; architecture a of e is signal t : time := 1 ^day; begin end;",
+    ),
+    // a unit that is hidden
+    (
+        23,
+        "entity e is end; architecture a of e is type t is (ns, x); signal u : time := 5 ^ns; begin end;",
+    ),
+    // in an operand
+    (
+        23,
+        "entity e is end; architecture a of e is signal n : integer := -^2147483648; begin end;",
+    ),
+];
+
+const MAPS: [Refused; 15] = [
     // an unknown formal
     (
         18,
@@ -886,26 +1038,6 @@ const REFUSED: [Refused; 217] = [
         19,
         "entity c is generic (g : integer := 1); port (i : in bit; o : out bit; io : inout bit); end; architecture a of c is begin end; entity e is end; architecture a of e is signal t, u : bit; signal n : integer; signal v : bit_vector(0 to 1); begin x : entity work.c port map (^v(n), t, u); end;",
     ),
-    // no such entity
-    (
-        20,
-        "entity e is end; architecture a of e is begin x : entity work.^c; end;",
-    ),
-    // an entity that stands behind
-    (
-        20,
-        "entity e is end; architecture a of e is begin x : entity ^c; end; entity c is end;",
-    ),
-    // another library
-    (
-        20,
-        "entity c is generic (g : integer := 1); port (i : in bit; o : out bit; io : inout bit); end; architecture a of c is begin end; entity e is end; architecture a of e is begin x : entity ieee.^c; end;",
-    ),
-    // no such architecture
-    (
-        20,
-        "entity c is generic (g : integer := 1); port (i : in bit; o : out bit; io : inout bit); end; architecture a of c is begin end; entity e is end; architecture a of e is signal s, t, u : bit; begin x : entity work.c(^b) port map (s, t, u); end;",
-    ),
     // an in port for an out port
     (
         21,
@@ -921,113 +1053,9 @@ const REFUSED: [Refused; 217] = [
         21,
         "entity c is generic (g : integer := 1); port (i : in bit; o : out bit; io : inout bit); end; architecture a of c is begin end; entity e is port (pi : in bit; po : out bit; pio : inout bit); end; architecture a of e is signal s, t, u : bit; begin x : entity work.c port map (s, t, ^po); end;",
     ),
-    // another attribute
-    (
-        22,
-        "entity e is end; architecture a of e is attribute ^keep of a : architecture is \"VHPI lib model\"; begin end;",
-    ),
-    // another architecture
-    (
-        22,
-        "entity e is end; architecture a of e is attribute ^foreign of b : architecture is \"VHPI lib model\"; begin end;",
-    ),
-    // no string literal
-    (
-        22,
-        "entity e is end; architecture a of e is attribute ^foreign of a : architecture is 1; begin end;",
-    ),
-    // two words
-    (
-        22,
-        "entity e is end; architecture a of e is attribute ^foreign of a : architecture is \"VHPI model\"; begin end;",
-    ),
-    // four words
-    (
-        22,
-        "entity e is end; architecture a of e is attribute ^foreign of a : architecture is \"VHPI lib model x\"; begin end;",
-    ),
-    // another first word
-    (
-        22,
-        "entity e is end; architecture a of e is attribute ^foreign of a : architecture is \"vhpi lib model\"; begin end;",
-    ),
-    // twice
-    (
-        22,
-        "entity e is end; architecture a of e is attribute foreign of a : architecture is \"VHPI lib model\"; attribute ^foreign of a : architecture is \"VHPI lib model\"; begin end;",
-    ),
-    // a signal beside
-    (
-        22,
-        "entity e is end; architecture a of e is attribute ^foreign of a : architecture is \"VHPI lib model\"; signal s : bit; begin end;",
-    ),
-    // another attribute beside
-    (
-        22,
-        "entity e is end; architecture a of e is attribute ^foreign of a : architecture is \"VHPI lib model\"; attribute keep of a : architecture is \"x\"; begin end;",
-    ),
-    // a statement beside
-    (
-        22,
-        "entity e is end; architecture a of e is attribute ^foreign of a : architecture is \"VHPI lib model\"; begin process begin wait; end process; end;",
-    ),
-    // an integer
-    (
-        23,
-        "entity e is end; architecture a of e is signal n : integer := ^2147483648; begin end;",
-    ),
-    // a time
-    (
-        23,
-        "entity e is end; architecture a of e is signal t : time := ^9223372036854775808 fs; begin end;",
-    ),
-    // a time in hours
-    (
-        23,
-        "entity e is end; architecture a of e is signal t : time := ^3 hr; begin end;",
-    ),
-    // an unknown unit
-    (
-        23,
-        "entity e is end; architecture a of e is signal t : time := 1 ^day; begin end;",
-    ),
-    // a unit that is hidden
-    (
-        23,
-        "entity e is end; architecture a of e is type t is (ns, x); signal u : time := 5 ^ns; begin end;",
-    ),
-    // in an operand
-    (
-        23,
-        "entity e is end; architecture a of e is signal n : integer := -^2147483648; begin end;",
-    ),
-    // a signal
-    (
-        24,
-        "entity e is end; architecture a of e is signal s : bit; signal t : bit := ^s; begin end;",
-    ),
-    // an operand
-    (
-        24,
-        "entity e is end; architecture a of e is signal s : bit; constant c : bit := ^not s; begin end;",
-    ),
-    // a variable
-    (
-        24,
-        "entity e is end; architecture a of e is begin process variable v : bit; variable w : bit := ^v; begin wait; end process; end;",
-    ),
-    // a port's default
-    (24, "entity e is port (p : in bit; q : in bit := ^p); end;"),
-    // an event
-    (
-        24,
-        "entity e is end; architecture a of e is signal s : bit; signal b : boolean := ^s'event; begin end;",
-    ),
-    // a generic's actual
-    (
-        24,
-        "entity c is generic (g : integer := 1); port (i : in bit; o : out bit; io : inout bit); end; architecture a of c is begin end; entity e is end; architecture a of e is signal s, t, u : bit; signal n : integer; begin x : entity work.c generic map (^n) port map (s, t, u); end;",
-    ),
+];
+
+const ORDER: [Refused; 5] = [
     // a bound that reads a signal breaks two rules
     (
         8,
@@ -1055,7 +1083,7 @@ const REFUSED: [Refused; 217] = [
     ),
 ];
 
-const MET: [&'static str; 50] = [
+const MET: [&'static str; 25] = [
     // two entities
     "entity e is end; entity f is end;",
     // two architectures
@@ -1106,6 +1134,9 @@ const MET: [&'static str; 50] = [
     "entity e is end; architecture a of e is signal b : boolean; signal n : integer; signal t : time; signal v : bit_vector(0 to 1); begin b <= b and b and not b; b <= (b or b) xor (b nand b); b <= (b nor b) xnor b; b <= n = 1; b <= t < 1 ns; b <= v = \"01\"; n <= 1 + 2 - 3 * 4 / 5 mod 6 rem 7; n <= 2 ** 3; n <= abs n; n <= -n; t <= t + 1 ns - t; t <= 2 * t; t <= t * 2; t <= t / 2; n <= t / t; t <= -t; v <= v & v; v <= '0' & '1'; v <= v(0) & v(1); end;",
     // one side has its type alone
     "entity e is end; architecture a of e is signal b : boolean; signal u : std_ulogic; begin b <= u = '0'; b <= '1' = u;  end;",
+];
+
+const ALSO_MET: [&'static str; 25] = [
     // strings and bits
     "entity e is end; architecture a of e is signal v : bit_vector(0 to 3) := \"0101\"; signal w : std_ulogic_vector(0 to 3) := \"01XZ\"; signal x : string(1 to 4) := \"abcd\"; signal y : bit_vector(0 to 3) := X\"A\"; signal z : std_logic_vector(0 to 2) := O\"7\"; begin end;",
     // aggregates
@@ -1158,29 +1189,102 @@ const MET: [&'static str; 50] = [
     "entity e is generic (g : integer := 3); end; architecture a of e is constant c : integer := g + 1; signal s : integer := c; signal v : bit_vector(0 to c); signal n : integer := v'length; begin end;",
 ];
 
-#[test]
-fn names_the_rule_that_is_broken_first(rt: HostRuntime) -> Result<(), Fail> {
-    for (rule, marked) in REFUSED {
-        let (before, behind) = marked.split_once('^').ok_or(marked)?;
-        let text = format!(in rt.alloc(); "{before}{behind}")?;
-        assert!(rt; text.len() <= 1_048_576);
-        let fault = match read_text(rt.alloc(), text.as_bytes()) {
-            Err(SessionFault::Design(DesignFault::Static(fault))) => fault,
-            _ => return Err(Fail::from(marked)),
-        };
-        assert_eq!(rt; fault.rule.number(), rule, "{marked}");
-        assert_eq!(rt; fault.place as usize, before.len(), "{marked}");
+// Whether a text without its mark breaks this rule first, at the place of the mark.
+fn is_broken(alloc: Global, rule: u8, marked: &'static str) -> Result<bool, Fail> {
+    let (before, behind) = marked.split_once('^').ok_or(marked)?;
+    let text = format!(in alloc; "{before}{behind}")?;
+    if text.len() > 1_048_576 {
+        return Ok(false);
+    }
+    match read_text(alloc, text.as_bytes()) {
+        Err(SessionFault::Design(DesignFault::Static(fault))) => {
+            Ok(fault.rule.number() == rule && fault.place as usize == before.len())
+        }
+        _ => Ok(false),
+    }
+}
+
+fn refuses(alloc: Global, table: &[Refused]) -> Result<(), Fail> {
+    for (rule, marked) in table {
+        if !is_broken(alloc, *rule, *marked)? {
+            return Err(Fail::from(*marked));
+        }
+    }
+    Ok(())
+}
+
+// Whether a text breaks no rule: it is run, or it is of no form that can be run.
+fn is_met(alloc: Global, text: &'static str) -> bool {
+    if text.len() > 1_048_576 {
+        return false;
+    }
+    match read_text(alloc, text.as_bytes()) {
+        Ok(_) => true,
+        Err(fault) => fault == SessionFault::Design(DesignFault::NotBuilt),
+    }
+}
+
+fn meets(alloc: Global, table: &[&'static str]) -> Result<(), Fail> {
+    for text in table {
+        if !is_met(alloc, *text) {
+            return Err(Fail::from(*text));
+        }
     }
     Ok(())
 }
 
 #[test]
-fn meets_the_rules(rt: HostRuntime) -> Result<(), Fail> {
-    for text in MET {
-        assert!(rt; text.len() <= 1_048_576);
-        let fault = read_text(rt.alloc(), text.as_bytes()).err();
-        let unbuilt = SessionFault::Design(DesignFault::NotBuilt);
-        assert!(rt; fault.is_none() || fault == Some(unbuilt), "{text}");
-    }
-    Ok(())
+fn units(rt: HostRuntime) -> Result<(), Fail> {
+    refuses(rt.alloc(), &UNITS)
+}
+
+#[test]
+fn declarations(rt: HostRuntime) -> Result<(), Fail> {
+    refuses(rt.alloc(), &DECLARATIONS)
+}
+
+#[test]
+fn names(rt: HostRuntime) -> Result<(), Fail> {
+    refuses(rt.alloc(), &NAMES)
+}
+
+#[test]
+fn kinds(rt: HostRuntime) -> Result<(), Fail> {
+    refuses(rt.alloc(), &KINDS)
+}
+
+#[test]
+fn operands(rt: HostRuntime) -> Result<(), Fail> {
+    refuses(rt.alloc(), &OPERANDS)
+}
+
+#[test]
+fn places(rt: HostRuntime) -> Result<(), Fail> {
+    refuses(rt.alloc(), &PLACES)
+}
+
+#[test]
+fn statements(rt: HostRuntime) -> Result<(), Fail> {
+    refuses(rt.alloc(), &STATEMENTS)
+}
+
+#[test]
+fn values(rt: HostRuntime) -> Result<(), Fail> {
+    refuses(rt.alloc(), &VALUES)
+}
+
+#[test]
+fn maps(rt: HostRuntime) -> Result<(), Fail> {
+    refuses(rt.alloc(), &MAPS)
+}
+
+#[test]
+fn order(rt: HostRuntime) -> Result<(), Fail> {
+    refuses(rt.alloc(), &ORDER)
+}
+
+#[test]
+fn met(rt: HostRuntime) -> Result<(), Fail> {
+    meets(rt.alloc(), &MET)?;
+    meets(rt.alloc(), &ALSO_MET)
 }

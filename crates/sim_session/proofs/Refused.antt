@@ -1,5 +1,5 @@
 -- Why a text isn't read: each error of a reader is the text's own.
-use Rattle.std.proofs.Common.{◌≡◌, ◌⊎◌, ℕ, List, None, Result, Ok, Err, IsErrOf, IsErrAnd, inl, inr, refl, subst}
+use Rattle.std.proofs.Common.{◌≡◌, ◌⊎◌, ℕ, List, Result, Ok, Err, IsErrOf, IsErrAnd, inl, inr, refl, subst}
 use Rattle.std.proofs.lemmas.Result.{err_from_is_err_and}
 use Rattle.vhdl_tokens.specs.declared.token.Token.{Token}
 use Rattle.vhdl_tokens.specs.declared.token.TokenError.{TokenError}
@@ -13,14 +13,11 @@ use Rattle.vhdl_reader.specs.declared.error.SyntaxError.TheVariants as syntax
 use Rattle.vhdl_reader.specs.Judgement.{Judges}
 use Rattle.sim_design.specs.declared.Design.{Design}
 use Rattle.first_form.specs.FirstForm.{IsForm}
-use Rattle.first_form.specs.declared.fault.FormError.{FormError}
-use Rattle.first_form.specs.declared.fault.FormError.TheVariants as form
-use Rattle.vhdl_names.specs.Static.{Static}
 use Rattle.sim_session.specs.declared.fault.DesignFault.TheVariants as design
 use Rattle.sim_session.specs.declared.fault.SessionFault.{SessionFault}
 use Rattle.sim_session.specs.declared.fault.SessionFault.TheVariants as fault
-use Rattle.sim_session.specs.Faults.{fault_of_tokens, fault_of_syntax, fault_of_form}
-use Rattle.sim_session.specs.Text.{IsTreeOf, IsRead, MeetsRules}
+use Rattle.sim_session.specs.Faults.{fault_of_tokens, fault_of_syntax}
+use Rattle.sim_session.specs.Text.{IsTreeOf, IsRead, IsDesignOf, IsUnbuiltFor, HasNoForm}
 
 abbrev failed : {A E : Type 0} → E → Result A E
 failed e = Err e
@@ -48,6 +45,17 @@ tokens_refused text (token.BadByte place) h only = record { why = h; none = λ d
 tokens_refused text (token.BadLiteral place) h only = record { why = h; none = λ d f. let is = only f.reads.tokens f.reads.spelled in absurd cc }
 tokens_refused text token.NoMemory h only = tt
 
+-- a tree that is of no form that runs has no design, for its cause
+pub unbuilt : (e : SessionFault) (text : List ℕ) (tree : DesignFile) → IsUnbuiltFor e text tree → HasNoForm text tree → IsDesignOf (Err e) text tree
+unbuilt (fault.Design (design.Static f)) text tree h none = (h, none)
+unbuilt (fault.Design design.NotBuilt) text tree h none = (h, none)
+unbuilt (fault.Design (design.BadByte place)) text tree h none = absurd h
+unbuilt (fault.Design (design.BadLiteral place)) text tree h none = absurd h
+unbuilt (fault.Design (design.Syntax place)) text tree h none = absurd h
+unbuilt (fault.Design (design.Nesting place)) text tree h none = absurd h
+unbuilt fault.Host text tree h none = absurd h
+unbuilt fault.NoMemory text tree h none = tt
+
 module _ (text : List ℕ) (list : List Token) (spelled : Tokens text list) (alone : (other : List Token) → Tokens text other → other ≡ list) where
   -- of a text of the language the tokens are these
   moved : (tree : DesignFile) → IsTreeOf text tree → Sentence list tree × NestsWell list
@@ -68,26 +76,22 @@ module _ (text : List ℕ) (list : List Token) (spelled : Tokens text list) (alo
     pub is_tree : IsTreeOf text tree
     is_tree = record { tokens = list; spelled = spelled; sentence = judged.0; nests = judged.1 }
 
-    -- the rule that is broken first is the text's
-    pub rule_refused : (e : SessionFault) → MeetsRules (Err e) text tree → IsRead (Err e) text
-    rule_refused (fault.Design (design.Static f)) h = record {
-      why = record { tree = tree; reads = is_tree; breaks = h };
-      none = λ d g. let m = moved g.tree g.reads in (subst (λ t. Static text t None) (one g.tree m.0 m.1) g.meets) f h.0;
+    -- why there is no design is the text's
+    pub design_refused : (e : SessionFault) → IsDesignOf (Err e) text tree → IsRead (Err e) text
+    design_refused (fault.Design (design.Static f)) h = record {
+      why = record { tree = tree; reads = is_tree; breaks = h.0 };
+      none = λ d g. let m = moved g.tree g.reads in h.1 d (subst (λ t. IsForm text t d) (one g.tree m.0 m.1) g.form);
     }
-    rule_refused (fault.Design (design.BadByte place)) h = absurd h
-    rule_refused (fault.Design (design.BadLiteral place)) h = absurd h
-    rule_refused (fault.Design (design.Syntax place)) h = absurd h
-    rule_refused (fault.Design (design.Nesting place)) h = absurd h
-    rule_refused (fault.Design design.NotBuilt) h = absurd h
-    rule_refused fault.Host h = absurd h
-    rule_refused fault.NoMemory h = tt
-
-    pub form_refused : Static text tree None → (e : FormError) → (e ≡ form.NotBuilt → (d : Design) → IsForm text tree d → ⊥) → IsRead (Err (fault_of_form e)) text
-    form_refused meets form.NotBuilt none = record {
-      why = record { tree = tree; reads = is_tree; meets = meets; none = none refl };
-      none = λ d f. let m = moved f.tree f.reads in none refl d (subst (λ t. IsForm text t d) (one f.tree m.0 m.1) f.form);
+    design_refused (fault.Design design.NotBuilt) h = record {
+      why = record { tree = tree; reads = is_tree; meets = h.0; none = h.1 };
+      none = λ d g. let m = moved g.tree g.reads in h.1 d (subst (λ t. IsForm text t d) (one g.tree m.0 m.1) g.form);
     }
-    form_refused meets form.NoMemory none = tt
+    design_refused (fault.Design (design.BadByte place)) h = absurd h.0
+    design_refused (fault.Design (design.BadLiteral place)) h = absurd h.0
+    design_refused (fault.Design (design.Syntax place)) h = absurd h.0
+    design_refused (fault.Design (design.Nesting place)) h = absurd h.0
+    design_refused fault.Host h = absurd h.0
+    design_refused fault.NoMemory h = tt
 
-    pub form_found : Static text tree None → (d : Design) → IsForm text tree d → IsRead (Ok d) text
-    form_found meets d h = record { tree = tree; reads = is_tree; meets = meets; form = h }
+    pub form_found : (d : Design) → IsForm text tree d → IsRead (Ok d) text
+    form_found d h = record { tree = tree; reads = is_tree; form = h }

@@ -22,11 +22,10 @@ pub record IsTreeOf (text : List ℕ) (tree : DesignFile) : Type 0 where
   pub sentence : Sentence tokens tree
   pub nests : NestsWell tokens
 
--- the text breaks no static rule and is of the first form, and the design is what it stands for
+-- the text is of the first form, and the design is what it stands for
 pub record FirstForm (text : List ℕ) (d : Design) : Type 0 where
   pub tree : DesignFile
   pub reads : IsTreeOf text tree
-  pub meets : Static text tree None
   pub form : IsForm text tree d
 
 -- a fault of the text's tokens
@@ -57,12 +56,22 @@ IsDesignFault text (design.Nesting token) = TokensBreak text (λ tokens. IsNesti
 IsDesignFault text (design.Static f) = IsBroken text f
 IsDesignFault text design.NotBuilt = IsUnbuilt text
 
--- a tree breaks no static rule, or this one first
-abbrev pub MeetsRules : Result (Unit {0}) SessionFault → List ℕ → DesignFile → Type 0
-MeetsRules (Ok done) text tree = Static text tree None
-MeetsRules (Err (fault.Design (design.Static f))) text tree = Static text tree (Some f)
-MeetsRules (Err fault.NoMemory) text tree = Unit {0}
-MeetsRules (Err _) text tree = ⊥
+-- why a tree that is of no form that runs is refused
+abbrev pub IsUnbuiltFor : SessionFault → List ℕ → DesignFile → Type 0
+IsUnbuiltFor (fault.Design (design.Static f)) text tree = Static text tree (Some f)
+IsUnbuiltFor (fault.Design design.NotBuilt) text tree = Static text tree None
+IsUnbuiltFor fault.NoMemory text tree = Unit {0}
+IsUnbuiltFor _ text tree = ⊥
+
+-- the tree is of no form that runs
+abbrev pub HasNoForm : List ℕ → DesignFile → Type 0
+HasNoForm text tree = (d : Design) → IsForm text tree d → ⊥
+
+-- the design of a tree, or why there is none: it is of no form that runs, or memory ran out
+abbrev pub IsDesignOf : Result Design SessionFault → List ℕ → DesignFile → Type 0
+IsDesignOf (Ok d) text tree = IsForm text tree d
+IsDesignOf (Err fault.NoMemory) text tree = Unit {0}
+IsDesignOf (Err e) text tree = IsUnbuiltFor e text tree × HasNoForm text tree
 
 -- a text is refused for its cause, and is not of the first form
 pub record IsRefusedText (text : List ℕ) (f : DesignFault) : Type 0 where

@@ -2,10 +2,10 @@
 
 ghost use Rattle.std.specs.Prelude.{◌≡◌, ◌≤◌, IfOk, length};
 ghost use Rattle.sim_design.specs.Design.{IsSound, IsNumbered};
-ghost use Rattle.sim_session.specs.Text.{IsRead, MeetsRules};
+ghost use Rattle.sim_session.specs.Text.{IsRead, IsDesignOf, IsUnbuiltFor};
 
 use crate::{DesignFault, SessionFault};
-use first_form::design_of_form;
+use first_form::{FormError, design_of_form};
 use sim_design::Design;
 use std::alloc::Global;
 use vhdl_names::first_fault;
@@ -13,18 +13,32 @@ use vhdl_reader::read_design;
 use vhdl_tokens::tokens;
 use vhdl_tree::DesignFile;
 
-// The tree of a text breaks no static rule.
-fn meet_rules(alloc: Global, text: &[u8], tree: &DesignFile) -> Result<(), SessionFault>
-    ensures { MeetsRules result text.now tree.now }
+// Why a tree that isn't of the first form can't be run: a static rule, or that no other form is built.
+fn why_unbuilt(alloc: Global, text: &[u8], tree: &DesignFile) -> SessionFault
+    ensures { IsUnbuiltFor result text.now tree.now }
 {
-    match first_fault(alloc, text, tree)? {
-        None => Ok(()),
-        Some(fault) => Err(SessionFault::Design(DesignFault::Static(fault))),
+    match first_fault(alloc, text, tree) {
+        Ok(None) => SessionFault::Design(DesignFault::NotBuilt),
+        Ok(Some(fault)) => SessionFault::Design(DesignFault::Static(fault)),
+        Err(_) => SessionFault::NoMemory,
     }
 }
 
-/// Reads the text of a design file, of at most 1,048,576 bytes: its tokens, its tree, that this breaks no static
-/// rule, and the design of the first form that it stands for.
+// The design of a tree of the first form, or why there is none.
+fn design_of(alloc: Global, text: &[u8], tree: &DesignFile) -> Result<Design, SessionFault>
+    ensures read { IsDesignOf result text.now tree.now }
+    ensures sound { IfOk result (λ d. IsSound d) }
+    ensures numbered { IfOk result (λ d. IsNumbered d) }
+{
+    match design_of_form(alloc, text, tree) {
+        Ok(design) => Ok(design),
+        Err(FormError::NotBuilt) => Err(why_unbuilt(alloc, text, tree)),
+        Err(FormError::NoMemory) => Err(SessionFault::NoMemory),
+    }
+}
+
+/// Reads the text of a design file, of at most 1,048,576 bytes: its tokens, its tree, and the design of the first form
+/// that it stands for; where it is of no such form, the static rule that it breaks first, or that it can't be run so far.
 pub fn read_text(alloc: Global, text: &[u8]) -> Result<Design, SessionFault>
     requires { length text.now ≤ 1048576 }
     ensures read { IsRead result text.now }
@@ -33,6 +47,6 @@ pub fn read_text(alloc: Global, text: &[u8]) -> Result<Design, SessionFault>
 {
     let tokens = tokens(alloc, text)?;
     let tree = read_design(alloc, tokens.as_slice())?;
-    meet_rules(alloc, text, &tree)?;
-    Ok(design_of_form(alloc, text, &tree)?)
+    let design = design_of(alloc, text, &tree)?;
+    Ok(design)
 }

@@ -1,6 +1,6 @@
 -- The rules that an event breaks, by what stands around it.
 use Rattle.std.specs.List.{list_any}
-use Rattle.std.specs.Prelude.{Bool, List, None, Option, Some, [], bytes_eq, codes, false, if◌then◌else◌, is_some, length, map, not, slice_index_or, true, ℕ, ◌++◌, ◌==◌, ◌∷◌}
+use Rattle.std.specs.Prelude.{Bool, List, None, Option, Some, [], bytes_eq, codes, false, if◌then◌else◌, is_some, length, map, not, slice_index_or, true, ℕ, ◌++◌, ◌+◌, ◌==◌, ◌∷◌}
 use Rattle.vhdl_checker.specs.After.{architecture_key, entity_number}
 use Rattle.vhdl_checker.specs.Around.{Around, no_interface}
 use Rattle.vhdl_checker.specs.Declaring.{objects_twice, twice, type_or}
@@ -56,6 +56,11 @@ loop_faults text a (scheme.For token b) = loop_range (bounds_here text a b)
 unfoldable pub is_labelled : List ℕ → Option (List ℕ) → Bool
 is_labelled word (Some label) = bytes_eq word label
 is_labelled word None = false
+
+-- how many loops stand inside the innermost one of this label
+unfoldable pub loops_within : List ℕ → List (Option (List ℕ)) → ℕ
+loops_within word [] = 0
+loops_within word (label ∷ labels) = if is_labelled word label then 0 else loops_within word labels + 1
 
 -- a loop is open, and one of that label where one is named
 unfoldable pub is_in_loop : List ℕ → Option Token → List (Option (List ℕ)) → Bool

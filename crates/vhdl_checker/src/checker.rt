@@ -75,6 +75,25 @@ impl<'a> Checker<'a> {
         })
     }
 
+    /// The allocator.
+    pub fn alloc(&self) -> Global {
+        self.alloc
+    }
+
+    /// The text of the design file.
+    pub fn text(&self) -> &'a [u8]
+        ensures { result.now ≡ self.now.text }
+    {
+        self.text
+    }
+
+    /// What stands around the place behind the events so far.
+    pub fn around(&self) -> &Surroundings
+        ensures { result.now ≡ self.now.around }
+    {
+        &self.around
+    }
+
     /// The broken rules so far, in the order of the events.
     pub fn broken(&self) -> &[Fault]
         ensures { result.now ≡ self.now.broken }

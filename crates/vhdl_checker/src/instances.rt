@@ -31,8 +31,10 @@ fn is_formal(of_generics: bool, object: Object) -> bool
     }
 }
 
+/// The generic of a generic map, or the port of a port map, that its name denotes by what its entity declares
+/// that name to be. There is none where it is of another kind (6.5.7).
 #[tactic(auto, unfolding(crate::specs::Telling::formal_in))]
-fn formal_in(of_generics: bool, entries: &[Entry]) -> Option<Object>
+pub fn formal_in(of_generics: bool, entries: &[Entry]) -> Option<Object>
     ensures { result ≡ telling.formal_in of_generics entries.now }
 {
     match entries {
@@ -136,8 +138,9 @@ fn is_work(text: &[u8], library: &Option<Token>) -> bool
     }
 }
 
+/// The number of the entity that an instance names, from 0, if it stands before (11.7).
 #[tactic(auto, unfolding(crate::specs::Faults::entity_for))]
-fn entity_for(
+pub fn entity_for(
     alloc: Global,
     text: &[u8],
     instance: &Instantiation,
@@ -153,7 +156,8 @@ fn entity_for(
     }
 }
 
-fn interface_or<'a>(
+/// The generics and ports of the entity of a number, or else these.
+pub fn interface_or<'a>(
     interfaces: &'a [Interface],
     number: usize,
     otherwise: &'a Interface,

@@ -11,5 +11,8 @@ mod surroundings;
 mod telling;
 
 pub use checker::Checker;
+pub use declaring::type_or;
+pub use entities::entity_number;
+pub use instances::{entity_for, formal_in, interface_or};
 pub use interface::Interface;
-pub use surroundings::architecture_key;
+pub use surroundings::{Surroundings, architecture_key};

@@ -1,6 +1,6 @@
 //! What stands around a place of a design file.
 
-ghost use Rattle.std.specs.Prelude.{◌≡◌, ◌==◌, ◌∷◌, [], IfOk, OnOk, drop, false, length, not, reverse, slice_index_or, slice_set, string_bytes};
+ghost use Rattle.std.specs.Prelude.{◌≡◌, ◌<◌, ◌+◌, ◌^◌, ◌==◌, ◌∷◌, [], IfOk, OnOk, drop, false, length, not, reverse, slice_index_or, slice_set, string_bytes};
 ghost use Rattle.std.specs.List.{list_any};
 ghost use Rattle.std.specs.Option.{option_map};
 ghost use Rattle.vhdl_scope.specs.Nesting.{closed, declared, loop_closed, opened};
@@ -58,7 +58,25 @@ fn is_among(loops: &[Label], label: &str) -> bool
     loops.iter().rev().any(|open| open.is(label))
 }
 
-/// What stands around a place of a design file, by all that stands before it.
+// How many of some loops stand inside the innermost one of this label. The innermost is the last.
+#[tactic(auto, unfolding(crate::specs::Faults::loops_within))]
+fn count_within(loops: &[Label], label: &str) -> usize
+    ensures { result ≡ faults.loops_within label.now (reverse loops.now) }
+{
+    let mut count = 0;
+    let mut rest = loops;
+    while let [outer @ .., open] = rest {
+        if open.is(label) {
+            return count;
+        }
+        count += 1;
+        rest = outer;
+    }
+    count
+}
+
+/// What stands around a place of a design file, by all that stands before it. It is changed by the events of
+/// a `Checker`, and only read by others.
 #[derive(Drop)]
 pub struct Surroundings {
     regions: Regions,
@@ -168,7 +186,7 @@ fn give_back(bases: &mut Vec<Region>, entity: Option<usize>, base: Region)
 impl Surroundings {
     /// What stands around the beginning of a file.
     #[tactic(auto, unfolding(crate::specs::Around::beginning, crate::specs::Around::no_interface))]
-    pub fn new(alloc: Global) -> Result<Surroundings, AllocError>
+    pub(crate) fn new(alloc: Global) -> Result<Surroundings, AllocError>
         ensures { IfOk result (λ s. s ≡ around.beginning) }
     {
         let always = standard(alloc)?;
@@ -190,36 +208,42 @@ impl Surroundings {
 
     // ---- what is known
 
+    /// The open regions, the innermost of which is searched first (12.1).
     pub fn regions(&self) -> &Regions
         ensures { result.now ≡ self.now.regions }
     {
         &self.regions
     }
 
+    /// The entities so far by name, and the architectures by `entity.architecture` (13.1).
     pub fn library(&self) -> &Region
         ensures { result.now ≡ self.now.library }
     {
         &self.library
     }
 
+    /// The generics and ports of the entities so far, by the entity's number.
     pub fn interfaces(&self) -> &[Interface]
         ensures { result.now ≡ self.now.interfaces }
     {
         self.interfaces.as_slice()
     }
 
+    /// The name of the architecture that is open, or was open last, in lower case.
     pub fn architecture(&self) -> &str
         ensures { result.now ≡ self.now.architecture }
     {
         self.architecture.as_str()
     }
 
+    /// Whether an attribute may stand here: the architecture has nothing else, and none yet (7.2).
     pub fn is_allowed(&self) -> bool
         ensures { result ≡ self.now.is_allowed }
     {
         self.is_allowed
     }
 
+    /// Whether the process that is open, or was open last, has a sensitivity list (11.3).
     pub fn is_listed(&self) -> bool
         ensures { result ≡ self.now.is_listed }
     {
@@ -229,7 +253,8 @@ impl Surroundings {
     /// The number of the next declaration that has one.
     #[tactic(auto, unfolding(crate::specs::Declaring::next_number, crate::specs::Declaring::standard_marks))]
     pub fn next_number(&self) -> usize
-        ensures { result ≡ declaring.next_number self.now }
+        ensures number { result ≡ declaring.next_number self.now }
+        ensures bound { result < 2 ^ 63 + declaring.standard_marks }
     {
         STANDARD_MARKS + self.declarations.len()
     }
@@ -248,6 +273,14 @@ impl Surroundings {
         is_among(self.loops.as_slice(), label)
     }
 
+    /// How many of the open loops stand inside the innermost one of this label: 0 where it is the innermost
+    /// of all (10.11, 10.12). Where none has the label, how many are open.
+    pub fn loops_within(&self, label: &str) -> usize
+        ensures { result ≡ faults.loops_within label.now self.now.loops }
+    {
+        count_within(self.loops.as_slice(), label)
+    }
+
     /// The type that the innermost open case statement chooses by.
     #[tactic(auto, unfolding(crate::specs::Faults::subject))]
     pub fn subject(&self) -> Option<BaseType>
@@ -263,7 +296,7 @@ impl Surroundings {
 
     /// Adds a declaration that has a number to the innermost region.
     #[tactic(auto, unfolding(crate::specs::Declaring::numbered))]
-    pub fn numbered(&mut self, name: String, entry: Entry) -> Result<(), AllocError>
+    pub(crate) fn numbered(&mut self, name: String, entry: Entry) -> Result<(), AllocError>
         ensures { OnOk result (self.new ≡ declaring.numbered (string_bytes name) entry self.old) }
     {
         self.declarations.push(entry)?;
@@ -272,7 +305,7 @@ impl Surroundings {
     }
 
     /// Adds an enumeration literal to the innermost region.
-    pub fn add_literal(
+    pub(crate) fn add_literal(
         &mut self,
         name: String,
         base: BaseType,
@@ -286,7 +319,7 @@ impl Surroundings {
     }
 
     /// Adds an object to the entity that is open, if it is a formal.
-    pub fn add_formal(
+    pub(crate) fn add_formal(
         &mut self,
         class: Class,
         name: &String,
@@ -303,7 +336,7 @@ impl Surroundings {
 
     /// Adds a unit to the library.
     #[tactic(auto, unfolding(crate::specs::After::in_library))]
-    pub fn add_unit(&mut self, name: String, number: usize) -> Result<(), AllocError>
+    pub(crate) fn add_unit(&mut self, name: String, number: usize) -> Result<(), AllocError>
         ensures { OnOk result (self.new ≡ after.in_library (string_bytes name) number self.old) }
     {
         self.library.add(name, Entry::Label(number))?;
@@ -312,7 +345,7 @@ impl Surroundings {
 
     /// An entity begins.
     #[tactic(auto, unfolding(crate::specs::After::entity_begun))]
-    pub fn begin_entity(&mut self, alloc: Global) -> Result<(), AllocError>
+    pub(crate) fn begin_entity(&mut self, alloc: Global) -> Result<(), AllocError>
         ensures { OnOk result (self.new ≡ after.entity_begun self.old) }
     {
         self.regions.open(alloc, Region::new(alloc))?;
@@ -322,7 +355,7 @@ impl Surroundings {
 
     /// An entity of this name ends.
     #[tactic(auto, unfolding(crate::specs::After::entity_ended, crate::specs::After::in_library))]
-    pub fn end_entity(&mut self, alloc: Global, name: String) -> Result<(), AllocError>
+    pub(crate) fn end_entity(&mut self, alloc: Global, name: String) -> Result<(), AllocError>
         ensures { OnOk result (self.new ≡ after.entity_ended (string_bytes name) self.old) }
     {
         let number = self.interfaces.len();
@@ -336,7 +369,7 @@ impl Surroundings {
 
     /// An architecture begins: its region goes on that of its entity.
     #[tactic(auto, unfolding(crate::specs::After::architecture_of, crate::specs::After::in_library))]
-    pub fn begin_architecture(
+    pub(crate) fn begin_architecture(
         &mut self,
         alloc: Global,
         entity: Option<usize>,
@@ -358,7 +391,7 @@ impl Surroundings {
 
     /// An architecture ends, and its entity has its region again.
     #[tactic(auto, unfolding(crate::specs::After::architecture_ended))]
-    pub fn end_architecture(&mut self, alloc: Global)
+    pub(crate) fn end_architecture(&mut self, alloc: Global)
         ensures { self.new ≡ after.architecture_ended self.old }
     {
         let region = self.regions.close(alloc);
@@ -367,7 +400,7 @@ impl Surroundings {
     }
 
     /// An attribute stands here: none may follow.
-    pub fn disallow(&mut self)
+    pub(crate) fn disallow(&mut self)
         ensures { self.new ≡ record self.old { is_allowed = false } }
     {
         self.is_allowed = false;
@@ -376,7 +409,7 @@ impl Surroundings {
     // ---- processes, loops and case statements
 
     /// A process begins, with or without a sensitivity list.
-    pub fn begin_process(&mut self, alloc: Global, is_listed: bool) -> Result<(), AllocError>
+    pub(crate) fn begin_process(&mut self, alloc: Global, is_listed: bool) -> Result<(), AllocError>
         ensures { OnOk result (self.new ≡ record self.old { regions = opened [] self.old.regions; is_listed = is_listed }) }
     {
         self.regions.open(alloc, Region::new(alloc))?;
@@ -385,7 +418,7 @@ impl Surroundings {
     }
 
     /// A process ends.
-    pub fn end_process(&mut self, alloc: Global)
+    pub(crate) fn end_process(&mut self, alloc: Global)
         ensures { self.new ≡ record self.old { regions = closed self.old.regions } }
     {
         self.regions.close(alloc);
@@ -393,7 +426,7 @@ impl Surroundings {
 
     /// A `for` loop begins: its parameter stands in a region of its own.
     #[tactic(auto, unfolding(crate::specs::After::with_parameter))]
-    pub fn add_parameter(&mut self, name: String, entry: Entry) -> Result<(), AllocError>
+    pub(crate) fn add_parameter(&mut self, name: String, entry: Entry) -> Result<(), AllocError>
         ensures { OnOk result (self.new ≡ after.with_parameter (string_bytes name) entry self.old) }
     {
         self.declarations.push(entry)?;
@@ -402,7 +435,7 @@ impl Surroundings {
     }
 
     /// A `for` loop ends.
-    pub fn drop_parameter(&mut self)
+    pub(crate) fn drop_parameter(&mut self)
         ensures { self.new ≡ record self.old { regions = loop_closed self.old.regions } }
     {
         self.regions.close_loop();
@@ -410,7 +443,7 @@ impl Surroundings {
 
     /// A loop begins.
     #[tactic(auto, unfolding(crate::specs::After::in_loop))]
-    pub fn begin_loop(&mut self, label: Label) -> Result<(), AllocError>
+    pub(crate) fn begin_loop(&mut self, label: Label) -> Result<(), AllocError>
         ensures { OnOk result (self.new ≡ after.in_loop label self.old) }
     {
         self.loops.push(label)?;
@@ -418,14 +451,14 @@ impl Surroundings {
     }
 
     /// A loop ends.
-    pub fn end_loop(&mut self)
+    pub(crate) fn end_loop(&mut self)
         ensures { self.new ≡ record self.old { loops = drop 1 self.old.loops } }
     {
         self.loops.pop();
     }
 
     /// A case statement begins, which chooses by values of this type, if it is known.
-    pub fn begin_case(&mut self, subject: Option<BaseType>) -> Result<(), AllocError>
+    pub(crate) fn begin_case(&mut self, subject: Option<BaseType>) -> Result<(), AllocError>
         ensures { OnOk result (self.new ≡ record self.old { subjects = subject ∷ self.old.subjects }) }
     {
         self.subjects.push(subject)?;
@@ -433,7 +466,7 @@ impl Surroundings {
     }
 
     /// A case statement ends.
-    pub fn end_case(&mut self)
+    pub(crate) fn end_case(&mut self)
         ensures { self.new ≡ record self.old { subjects = drop 1 self.old.subjects } }
     {
         self.subjects.pop();

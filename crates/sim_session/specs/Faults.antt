@@ -3,8 +3,6 @@ use Rattle.vhdl_tokens.specs.declared.token.TokenError.{TokenError}
 use Rattle.vhdl_tokens.specs.declared.token.TokenError.TheVariants as token
 use Rattle.vhdl_reader.specs.declared.error.SyntaxError.{SyntaxError}
 use Rattle.vhdl_reader.specs.declared.error.SyntaxError.TheVariants as syntax
-use Rattle.first_form.specs.declared.fault.FormError.{FormError}
-use Rattle.first_form.specs.declared.fault.FormError.TheVariants as form
 use Rattle.sim_host.specs.declared.errors.HostError.{HostError}
 use Rattle.sim_host.specs.declared.errors.HostError.TheVariants as host
 use Rattle.sim_session.specs.declared.fault.DesignFault.TheVariants as design
@@ -24,7 +22,3 @@ abbrev pub fault_of_syntax : SyntaxError → SessionFault
 fault_of_syntax (syntax.Syntax place) = fault.Design (design.Syntax place)
 fault_of_syntax (syntax.Nesting place) = fault.Design (design.Nesting place)
 fault_of_syntax syntax.NoMemory = fault.NoMemory
-
-abbrev pub fault_of_form : FormError → SessionFault
-fault_of_form form.NotBuilt = fault.Design design.NotBuilt
-fault_of_form form.NoMemory = fault.NoMemory

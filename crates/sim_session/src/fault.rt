@@ -1,11 +1,9 @@
 ghost use Rattle.std.specs.Prelude.{◌≡◌};
-ghost use Rattle.sim_session.specs.Faults.{fault_of_host, fault_of_tokens, fault_of_syntax, fault_of_form};
+ghost use Rattle.sim_session.specs.Faults.{fault_of_host, fault_of_tokens, fault_of_syntax};
 ghost use Rattle.sim_session.specs.declared.fault.SessionFault.TheVariants as faults;
 
-use first_form::FormError;
 use sim_host::HostError;
 use sim_memory::NoMemory;
-use std::alloc::{AllocError, AllocFailed};
 use std::error::Error;
 use std::fmt;
 use vhdl_reader::SyntaxError;
@@ -84,14 +82,6 @@ impl fmt::Display for SessionFault {
 
 impl Error for SessionFault {}
 
-impl From<AllocError> for SessionFault {
-    ghost from_gives = { λ _ f. f ≡ faults.NoMemory };
-
-    fn from(_error: AllocError) -> SessionFault {
-        SessionFault::NoMemory
-    }
-}
-
 impl From<NoMemory> for SessionFault {
     ghost from_gives = { λ _ f. f ≡ faults.NoMemory };
 
@@ -133,17 +123,6 @@ impl From<SyntaxError> for SessionFault {
             SyntaxError::Syntax { token } => SessionFault::Design(DesignFault::Syntax { token }),
             SyntaxError::Nesting { token } => SessionFault::Design(DesignFault::Nesting { token }),
             SyntaxError::NoMemory => SessionFault::NoMemory,
-        }
-    }
-}
-
-impl From<FormError> for SessionFault {
-    ghost from_gives = { λ e f. f ≡ fault_of_form e };
-
-    fn from(error: FormError) -> SessionFault {
-        match error {
-            FormError::NotBuilt => SessionFault::Design(DesignFault::NotBuilt),
-            FormError::NoMemory => SessionFault::NoMemory,
         }
     }
 }

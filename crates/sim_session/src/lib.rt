@@ -15,3 +15,5 @@ pub use sim_memory::NoMemory;
 mod rules;
 #[cfg(test)]
 mod tests;
+#[cfg(test)]
+mod units;

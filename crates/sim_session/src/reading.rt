@@ -8,7 +8,7 @@ use crate::{DesignFault, SessionFault};
 use first_form::{FormError, design_of_form};
 use sim_design::Design;
 use std::alloc::Global;
-use vhdl_names::first_fault;
+use vhdl_names::{StaticError, resolve_names};
 use vhdl_reader::read_design;
 use vhdl_tokens::tokens;
 use vhdl_tree::DesignFile;
@@ -17,10 +17,10 @@ use vhdl_tree::DesignFile;
 fn why_unbuilt(alloc: Global, text: &[u8], tree: &DesignFile) -> SessionFault
     ensures { IsUnbuiltFor result text.now tree.now }
 {
-    match first_fault(alloc, text, tree) {
-        Ok(None) => SessionFault::Design(DesignFault::NotBuilt),
-        Ok(Some(fault)) => SessionFault::Design(DesignFault::Static(fault)),
-        Err(_) => SessionFault::NoMemory,
+    match resolve_names(alloc, text, tree) {
+        Ok(_) => SessionFault::Design(DesignFault::NotBuilt),
+        Err(StaticError::Static(fault)) => SessionFault::Design(DesignFault::Static(fault)),
+        Err(StaticError::NoMemory) => SessionFault::NoMemory,
     }
 }
 

@@ -11,7 +11,10 @@ use Rattle.vhdl_tree.specs.declared.units.DesignFile.{DesignFile}
 use Rattle.vhdl_names.proofs.Order.{before_both, none_in, some_first}
 use Rattle.vhdl_names.specs.First.{IsFirst}
 use Rattle.vhdl_names.specs.Static.{Breaks, BreaksIn, Static, behind}
-use Rattle.vhdl_names.specs.Units.{architectures, of_file}
+use Rattle.vhdl_names.specs.Parts.{all_at, events_of}
+use Rattle.vhdl_names.specs.Units.{architectures, of_file, of_units, units_of}
+use Rattle.vhdl_tree.specs.declared.units.DesignUnit.{DesignUnit}
+use Rattle.vhdl_units.specs.declared.units.ResolvedUnit.{ResolvedUnit}
 use Rattle.vhdl_types.specs.declared.fault.Fault.{Fault}
 
 -- ---- what is found is broken
@@ -67,11 +70,19 @@ first_is_static : (text : List ℕ) (tree : DesignFile) (first : Option Fault) �
 first_is_static text tree None none = λ f b. none_in _ f none (all_found text tree f b)
 first_is_static text tree (Some f) is = (all_broken text tree f is.0, λ g b. is.1 g (all_found text tree g b))
 
-pub static : (text : List ℕ) (tree : DesignFile) (first : Option Fault) {file : List Named} {start end : Progress} {all : List Fault}
-    → file ≡ architectures text tree → start ≡ setting_out text file → end ≡ walk (of_file text tree) start → all ≡ end.broken → IsFirst all first → Static text tree first
-static text tree first hf hs he ha is =
+pub static : (text : List ℕ) (tree : DesignFile) (first : Option Fault) {file : List Named} {start end : Progress} {all : List Fault} {us : List DesignUnit}
+    → file ≡ architectures text tree → start ≡ setting_out text file → us ≡ tree.units → end ≡ walk (events_of (of_units text us)) start → all ≡ end.broken → IsFirst all first → Static text tree first
+unfolding of_file
+static text tree first {start = start} hf hs hu he ha is =
     let P : List Fault → Type 0 = λ fs. IsFirst fs first in
-    first_is_static text tree first (subst P (ha ∙ (ap (λ p. p.broken) he ∙ (ap (λ p. (walk (of_file text tree) p).broken) hs ∙ ap (λ fs. (walk (of_file text tree) (setting_out text fs)).broken) hf))) is)
+    let ended = he ∙ ap (λ us. walk (events_of (of_units text us)) start) hu in
+    first_is_static text tree first (subst P (ha ∙ (ap (λ p. p.broken) ended ∙ (ap (λ p. (walk (of_file text tree) p).broken) hs ∙ ap (λ fs. (walk (of_file text tree) (setting_out text fs)).broken) hf))) is)
+
+-- what the parts mean is what the file means
+pub units : (text : List ℕ) (tree : DesignFile) {file : List Named} {start : Progress} {us : List DesignUnit} {resolved : List ResolvedUnit}
+    → file ≡ architectures text tree → start ≡ setting_out text file → us ≡ tree.units → resolved ≡ all_at (of_units text us) start → record { units = resolved } ≡ units_of text tree
+unfolding units_of
+units text tree hf hs hu hr = rw (hr, hs, hf, hu) refl
 
 -- ---- one answer
 

@@ -1,17 +1,20 @@
-//! Which rule of a design file is broken first.
+//! The units of a design file with their meanings, or which rule it breaks first.
 
 ghost use Rattle.std.specs.Prelude.{◌≡◌, ℕ, IfOk, List, Option};
 ghost use Rattle.vhdl_names.specs.Static.{is_before, Static};
 ghost use Rattle.vhdl_names.specs.First.{earlier, IsFirst};
+ghost use Rattle.vhdl_names.specs.Resolved.{Resolved};
+ghost use Rattle.vhdl_names.specs.Units.{units_of};
 ghost use Rattle.vhdl_tree.specs.declared.units.DesignFile.{DesignFile};
 ghost use Rattle.vhdl_types.specs.declared.fault.Fault.{Fault};
 
 use crate::architectures::architectures;
-use crate::units::check_file;
+use crate::units::check_units;
 use std::alloc::{AllocError, Global};
 use vhdl_checker::Checker;
 use vhdl_tree::DesignFile;
 use vhdl_types::Fault;
+use vhdl_units::Units;
 
 #[tactic(auto, unfolding(crate::specs::Static::is_before))]
 fn is_before(fault: &Fault, other: &Fault) -> bool
@@ -48,20 +51,42 @@ pub(crate) fn first_of(faults: &[Fault]) -> Option<Fault>
     first
 }
 
-/// The first static rule that a design file breaks: the one whose place comes first in the text, and of
-/// several at one place the one of the least number. None is answered exactly where no rule is broken. The
-/// tokens of the tree are places of the text, in bytes from 0. The only error is that memory runs out.
-pub fn first_fault(
+/// Why a design file has no resolved units: the static rule that it breaks first, or want of memory.
+#[derive(Clone, Copy, Debug, PartialEq, Eq)]
+pub enum StaticError {
+    Static(Fault),
+    NoMemory,
+}
+
+/// The units of a design file as far as they have a meaning, and the rule that it breaks first.
+fn units_and_fault(
     alloc: Global,
     text: &[u8],
     tree: &DesignFile,
-) -> Result<Option<Fault>, AllocError>
-    ensures { IfOk result (λ first. Static text.now tree.now first) }
+) -> Result<(Units, Option<Fault>), AllocError>
+    ensures fault { IfOk result (λ found. Static text.now tree.now found.1) }
+    ensures units { IfOk result (λ found. found.0 ≡ units_of text.now tree.now) }
 {
     let file = architectures(alloc, text, tree)?;
     let mut checker = Checker::new(alloc, text, &file)?;
-    check_file(&mut checker, text, tree)?;
-    Ok(first_of(checker.broken()))
+    let units = check_units(&mut checker, text, tree.units.as_slice())?;
+    let first = first_of(checker.broken());
+    Ok((Units { units }, first))
+}
+
+/// Gives the names of a design file their meanings: its units, with what each name denotes, the type of each
+/// expression, what is globally static, and the lines and spellings of the text. They are given exactly where
+/// no static rule is broken. Else the rule is answered whose place comes first in the text, and of several at
+/// one place the one of the least number (12, 13). The tokens of the tree are places of the text, in bytes
+/// from 0.
+pub fn resolve_names(alloc: Global, text: &[u8], tree: &DesignFile) -> Result<Units, StaticError>
+    ensures { Resolved text.now tree.now result }
+{
+    match units_and_fault(alloc, text, tree) {
+        Ok((units, None)) => Ok(units),
+        Ok((_, Some(fault))) => Err(StaticError::Static(fault)),
+        Err(_) => Err(StaticError::NoMemory),
+    }
 }
 
 /// A design file has one answer: the rule that is broken first, or that none is broken.

@@ -1,5 +1,6 @@
-//! The static rules of a design file (IEEE Std 1076-2008, clauses 5 to 12): that none is broken, or which is,
-//! and where.
+//! The names of a design file and its static rules (IEEE Std 1076-2008, clauses 5 to 13): the units with what
+//! each name denotes and the type of each expression where no rule is broken, else the rule that is broken
+//! first, and where.
 #![tactic(auto)]
 
 mod architectures;
@@ -8,7 +9,7 @@ mod faults;
 mod statements;
 mod units;
 
-pub use faults::{first_fault, one_first_fault};
+pub use faults::{StaticError, one_first_fault, resolve_names};
 
 #[cfg(test)]
 mod tests;

@@ -1083,7 +1083,7 @@ const ORDER: [Refused; 5] = [
     ),
 ];
 
-const MET: [&'static str; 25] = [
+pub(crate) const MET: [&'static str; 25] = [
     // two entities
     "entity e is end; entity f is end;",
     // two architectures
@@ -1136,7 +1136,7 @@ const MET: [&'static str; 25] = [
     "entity e is end; architecture a of e is signal b : boolean; signal u : std_ulogic; begin b <= u = '0'; b <= '1' = u;  end;",
 ];
 
-const ALSO_MET: [&'static str; 25] = [
+pub(crate) const ALSO_MET: [&'static str; 25] = [
     // strings and bits
     "entity e is end; architecture a of e is signal v : bit_vector(0 to 3) := \"0101\"; signal w : std_ulogic_vector(0 to 3) := \"01XZ\"; signal x : string(1 to 4) := \"abcd\"; signal y : bit_vector(0 to 3) := X\"A\"; signal z : std_logic_vector(0 to 2) := O\"7\"; begin end;",
     // aggregates

@@ -1,5 +1,6 @@
 //! What the names and expressions of a design file mean, worked out by hand.
 
+use crate::rules::{ALSO_MET, MET};
 use std::alloc::Global;
 use std::test::Fail;
 use vhdl_names::resolve_names;
@@ -299,23 +300,35 @@ const MEANINGS: [(&str, &str); 23] = [
     ),
 ];
 
-fn means(alloc: Global, rows: &[(&str, &str)]) -> Result<(), Fail> {
+fn units_of(alloc: Global, text: &str) -> Result<Units, Fail> {
+    if text.len() > 1_048_576 {
+        return Err(Fail::from(text));
+    }
+    let tokens = tokens(alloc, text.as_bytes())?;
+    let tree = read_design(alloc, tokens.as_slice())?;
+    Ok(resolve_names(alloc, text.as_bytes(), &tree)?)
+}
+
+fn means(alloc: Global, body: &str, want: &str) -> Result<(), Fail> {
+    let text = format!(in alloc; "entity e is end; architecture a of e is {body} end;")?;
+    let units = units_of(alloc, text.as_str())?;
+    let shown = shown(alloc, &units)?;
+    if shown.as_str() != want {
+        return Err(Fail::new(format_args!("{text}: {shown}")));
+    }
+    Ok(())
+}
+
+fn all_mean(alloc: Global, rows: &[(&str, &str)]) -> Result<(), Fail> {
     for (body, want) in rows {
-        let text = format!(in alloc; "entity e is end; architecture a of e is {body} end;")?;
-        let tokens = tokens(alloc, text.as_bytes())?;
-        let tree = read_design(alloc, tokens.as_slice())?;
-        let units = resolve_names(alloc, text.as_bytes(), &tree)?;
-        let shown = shown(alloc, &units)?;
-        if shown.as_str() != *want {
-            return Err(Fail::new(format_args!("{text}: {shown}")));
-        }
+        means(alloc, body, want)?;
     }
     Ok(())
 }
 
 #[test]
 fn gives_names_and_expressions_their_meanings(rt: HostRuntime) -> Result<(), Fail> {
-    means(rt.alloc(), &MEANINGS)
+    all_mean(rt.alloc(), &MEANINGS)
 }
 
 // ---- all that stands in a file, so that what has no meaning shows
@@ -540,9 +553,7 @@ fn all(alloc: Global, units: &Units) -> Result<String, Fail> {
 }
 
 fn has_meanings(alloc: Global, text: &str) -> Result<(), Fail> {
-    let tokens = tokens(alloc, text.as_bytes())?;
-    let tree = read_design(alloc, tokens.as_slice())?;
-    let units = resolve_names(alloc, text.as_bytes(), &tree)?;
+    let units = units_of(alloc, text)?;
     let shown = all(alloc, &units)?;
     if shown.as_bytes().contains(&b'?') {
         return Err(Fail::new(format_args!("{text}: {shown}")));
@@ -550,13 +561,15 @@ fn has_meanings(alloc: Global, text: &str) -> Result<(), Fail> {
     Ok(())
 }
 
-#[test]
-fn leaves_nothing_without_a_meaning_where_no_rule_is_broken(rt: HostRuntime) -> Result<(), Fail> {
-    for text in crate::rules::MET {
-        has_meanings(rt.alloc(), text)?;
-    }
-    for text in crate::rules::ALSO_MET {
-        has_meanings(rt.alloc(), text)?;
+fn all_have_meanings(alloc: Global, texts: &[&'static str]) -> Result<(), Fail> {
+    for text in texts {
+        has_meanings(alloc, *text)?;
     }
     Ok(())
+}
+
+#[test]
+fn leaves_nothing_without_a_meaning_where_no_rule_is_broken(rt: HostRuntime) -> Result<(), Fail> {
+    all_have_meanings(rt.alloc(), &MET)?;
+    all_have_meanings(rt.alloc(), &ALSO_MET)
 }

@@ -12,6 +12,3 @@ mod reading;
 
 pub use design::design_of_form;
 pub use fault::FormError;
-
-#[cfg(test)]
-mod tests;

@@ -29,6 +29,3 @@ pub fn name(alloc: Global, text: &str) -> Result<Name, NoMemory>
 {
     Name::from_text(alloc, text)
 }
-
-#[cfg(test)]
-mod tests;

@@ -9,8 +9,6 @@ ghost use Rattle.sim_logic.specs.Logic.{resolution, resolved, and_table, or_tabl
 use Logic9::{Dash, H, L, One, U, W, X, Z, Zero};
 
 pub mod laws;
-#[cfg(test)]
-mod tests;
 
 /// A value of STD_ULOGIC, in the order of the standard.
 #[derive(Clone, Copy, Debug, PartialEq, Eq, Hash)]

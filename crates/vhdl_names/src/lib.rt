@@ -10,6 +10,3 @@ mod statements;
 mod units;
 
 pub use faults::{StaticError, one_first_fault, resolve_names};
-
-#[cfg(test)]
-mod tests;

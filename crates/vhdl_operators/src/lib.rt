@@ -17,6 +17,3 @@ pub use operators::{can_be, can_be_from, results, results_from};
 pub use places::{common_discrete, fits_alone, only, only_discrete};
 pub use relations::{compares, relates};
 pub use sets::has;
-
-#[cfg(test)]
-mod tests;

@@ -15,6 +15,3 @@ mod units;
 
 pub use design::{one_tree, read_design};
 pub use error::SyntaxError;
-
-#[cfg(test)]
-mod tests;

@@ -15,6 +15,3 @@ pub use predefined::{STANDARD_MARKS, standard, standard_numbers};
 pub use region::{Declared, Region};
 pub use regions::Regions;
 pub use spelling::word;
-
-#[cfg(test)]
-mod tests;

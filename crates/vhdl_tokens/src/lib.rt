@@ -11,6 +11,3 @@ mod token;
 pub use meaning::{bits, character, identifier, integer, one_value, span, string};
 pub use reading::{TEXT_LIMIT, one_reading, tokens};
 pub use token::{Delimiter, Kind, Reserved, Token, TokenError};
-
-#[cfg(test)]
-mod tests;

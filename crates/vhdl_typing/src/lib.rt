@@ -28,8 +28,3 @@ pub use told::{
     PartTold, Told, TypeAttribute,
 };
 pub use trees::{tell, tell_bounds, tell_choice, tell_name};
-
-#[cfg(test)]
-mod name_tests;
-#[cfg(test)]
-mod tree_tests;

@@ -7,8 +7,6 @@ pub mod laws;
 mod printing;
 mod reading;
 mod sequence;
-#[cfg(test)]
-mod tests;
 mod types;
 mod values;
 mod writing;

@@ -1,10 +1,10 @@
 // Rows from the operators of package STANDARD and of IEEE.STD_LOGIC_1164, as the standard declares them.
 
-use crate::{
+use std::test::Fail;
+use vhdl_operators::{
     all_arrays, can_be, can_be_from, common_discrete, compares, fits_alone, has, narrow, of_bits,
     of_string, only, only_discrete, relates, results, results_from,
 };
-use std::test::Fail;
 use vhdl_tree::Operator::{
     Add, And, Concatenate, Divide, Equal, Greater, GreaterEqual, Less, LessEqual, Mod, Multiply,
     Nand, Nor, NotEqual, Or, Power, Rem, Subtract, Xnor, Xor,

@@ -1,8 +1,8 @@
 //! Design files and what is no design file, worked out by hand from the grammar of docs/LANGUAGE.md.
 
-use crate::{SyntaxError, one_tree, read_design};
 use std::alloc::{AllocError, Global};
 use std::test::Fail;
+use vhdl_reader::{SyntaxError, one_tree, read_design};
 use vhdl_tokens::{Kind, Reserved, TEXT_LIMIT, Token, tokens};
 
 // The tokens of a text, or none where it has no tokens.

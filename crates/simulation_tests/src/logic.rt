@@ -1,6 +1,6 @@
 // The tables as IEEE std_logic_1164 prints them, against the calls.
 
-use crate::{Logic9, and9, not9, or9, resolve, to_x01, xor9};
+use sim_logic::{Logic9, and9, not9, or9, resolve, to_x01, xor9};
 use std::test::Fail;
 
 const VALUES: [Logic9; 9] = [

@@ -1,11 +1,11 @@
 // Worked values: formats written, formats read, refusals with their places, printed values.
 
-use crate::{
+use std::alloc::Global;
+use std::test::Fail;
+use vhpi_values::{
     Base, Format, FormatError, Formatted, IndexRange, Literal, Sequence, Ty, Val, ValueError,
     default_of, fits, format_value, print_value, read_value,
 };
-use std::alloc::Global;
-use std::test::Fail;
 
 fn own_base(alloc: Global) -> Result<Base, Fail> {
     let red = Sequence::from_vec(Vec::from_slice(alloc, b"red")?);

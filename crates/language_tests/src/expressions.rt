@@ -1,13 +1,13 @@
 //! Literals, and what they tell where only what is always visible is declared, worked out by hand from the rules
 //! of the language.
 
-use crate::name_tests::shown;
-use crate::tell;
+use crate::names::shown;
 use std::alloc::{AllocError, Global};
 use std::test::Fail;
 use vhdl_scope::{Regions, standard};
 use vhdl_tokens::{Kind, Token};
 use vhdl_tree::Expr;
+use vhdl_typing::tell;
 
 fn token(kind: Kind, start: u32, end: u32) -> Token {
     Token {

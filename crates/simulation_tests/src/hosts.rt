@@ -2,7 +2,12 @@ ghost use Rattle.std.specs.Prelude.{IfOk};
 ghost use Rattle.sim_host.specs.Host.{HasDistinctNames};
 ghost use Rattle.sim_host.specs.Memory.{entries};
 
-use super::*;
+use sim_host::{
+    Asked, Channel, FileHost, Host, HostError, MemoryHost, Name, ReadError, memory_host,
+    memory_host_without_faults, name, read_all, write_all,
+};
+use sim_memory::NoMemory;
+use std::alloc::Global;
 use std::fs;
 use std::test::Fail;
 

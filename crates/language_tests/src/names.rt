@@ -1,12 +1,12 @@
 //! Names of each kind with what follows them, and what they tell as expressions, worked out by hand from the
 //! rules of the language.
 
-use crate::{Form, NameTold, PartTold, Told, begun, extended, finished, value_of};
 use sqlite_items::Items;
 use std::alloc::{AllocError, Global};
 use std::test::Fail;
 use vhdl_tokens::{Kind, Token};
 use vhdl_types::{BaseType, Class, Entry, Fault, Function, Mark, Object, TimeUnit};
+use vhdl_typing::{Form, NameTold, PartTold, Told, begun, extended, finished, value_of};
 
 const EDGE: Entry = Entry::Function(Function::RisingEdge);
 

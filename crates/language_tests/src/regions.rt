@@ -1,8 +1,8 @@
 //! Names in nested regions, with what they denote by hiding and overloading, worked out by hand.
 
-use crate::{Region, Regions, STANDARD_MARKS, overloading, standard, standard_numbers, word};
 use std::alloc::Global;
 use std::test::Fail;
+use vhdl_scope::{Region, Regions, STANDARD_MARKS, overloading, standard, standard_numbers, word};
 use vhdl_tokens::{Kind, Token};
 use vhdl_types::{BaseType, Class, Entry, Function, Mark, Object, TimeUnit};
 

@@ -1,11 +1,11 @@
 //! Texts with their tokens and faults, worked out by hand from the rules of docs/LANGUAGE.md.
 
-use crate::{
+use std::alloc::{AllocError, Global};
+use std::test::Fail;
+use vhdl_tokens::{
     Kind, TEXT_LIMIT, Token, TokenError, bits, character, identifier, integer, one_reading,
     one_value, span, string, tokens,
 };
-use std::alloc::{AllocError, Global};
-use std::test::Fail;
 
 // Each token as its kind, its span and its line.
 fn shown(alloc: Global, list: &[Token]) -> Result<String, AllocError> {

@@ -1,7 +1,7 @@
 //! Designs of trees of one shape, worked by hand. The tokens of a tree are those of a text, which has the
 //! words of the first one in `FORMS` at the same places.
 
-use super::*;
+use first_form::{FormError, design_of_form};
 use sim_design::Design;
 use sqlite_items::Items;
 use std::alloc::{AllocError, Global};

@@ -63,12 +63,6 @@ fn severity_of(text: &[u8], otherwise: Severity, level: &Option<Token>) -> Sever
     }
 }
 
-fn string_value(alloc: Global, text: &[u8], token: &Token) -> Result<Option<Vec<u8>>, AllocError>
-    ensures { IfOk result (λ value. option_map (λ v. v.items) value ≡ text_value (span text.now token.now)) }
-{
-    string(alloc, text, token)
-}
-
 #[tactic(auto, unfolding(crate::specs::Statements::bytes_or))]
 fn bytes_or(alloc: Global, value: Option<Vec<u8>>) -> Items<u8>
     ensures { result ≡ spec.bytes_or (option_map (λ v. v.items) value) }
@@ -84,7 +78,7 @@ fn bytes_or(alloc: Global, value: Option<Vec<u8>>) -> Items<u8>
 fn string_of(alloc: Global, text: &[u8], token: &Token) -> Result<Items<u8>, AllocError>
     ensures { IfOk result (λ v. v ≡ spec.string_of text.now token.now) }
 {
-    let value = string_value(alloc, text, token)?;
+    let value = string(alloc, text, token)?;
     Ok(bytes_or(alloc, value))
 }
 

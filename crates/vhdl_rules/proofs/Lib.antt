@@ -1,5 +1,4 @@
 mod Known
-mod Texts
 mod Turns
 mod KnownParts
 mod Taking

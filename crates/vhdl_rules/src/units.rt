@@ -172,14 +172,6 @@ fn is_foreign_text(bytes: &[u8]) -> bool
     word_count(bytes) == 3 && starts_with_vhpi(without_blanks(bytes))
 }
 
-/// The value of a string literal.
-fn string_value(alloc: Global, text: &[u8], token: &Token) -> Result<Option<Vec<u8>>, AllocError>
-    ensures { IfOk result (λ value.
-        option_map (λ v. v.items) value ≡ text_value (span text.now token.now)) }
-{
-    string(alloc, text, token)
-}
-
 #[tactic(auto, unfolding(crate::specs::Units::is_foreign_string))]
 fn is_foreign_string(kind: Kind, value: &Option<Vec<u8>>) -> bool
     ensures { result ≡ spec.is_foreign_string kind (option_map (λ v. v.items) value.now) }
@@ -194,7 +186,7 @@ fn is_foreign_literal(alloc: Global, text: &[u8], token: &Token) -> Result<bool,
     ensures { IfOk result (λ is. is ≡
         spec.is_foreign_string token.now.kind (text_value (span text.now token.now))) }
 {
-    let value = string_value(alloc, text, token)?;
+    let value = string(alloc, text, token)?;
     Ok(is_foreign_string(token.kind, &value))
 }
 

@@ -101,7 +101,8 @@ fn text_value(alloc: Global, bytes: &[u8]) -> Result<Option<Vec<u8>>, AllocError
 
 /// The bytes of a string literal, where the token is one: a doubled quotation mark is one byte.
 pub fn string(alloc: Global, text: &[u8], token: &Token) -> Result<Option<Vec<u8>>, AllocError>
-    ensures { IfOk result (λ value.
+    ensures value { IfOk result (λ value. option_map (λ v. v.items) value ≡ text_value (span text.now token.now)) }
+    ensures means { IfOk result (λ value.
         Means (IsText (span text.now token.now)) (option_map (λ v. v.items) value)) }
 {
     text_value(alloc, span(text, token))
@@ -201,7 +202,8 @@ fn bits_value(alloc: Global, bytes: &[u8]) -> Result<Option<Vec<bool>>, AllocErr
 /// The bits of a bit string literal, where the token is one, the leftmost first. Each digit is one, three
 /// or four of them.
 pub fn bits(alloc: Global, text: &[u8], token: &Token) -> Result<Option<Vec<bool>>, AllocError>
-    ensures { IfOk result (λ value.
+    ensures value { IfOk result (λ value. option_map (λ v. v.items) value ≡ bits_value (span text.now token.now)) }
+    ensures means { IfOk result (λ value.
         Means (IsBits (span text.now token.now)) (option_map (λ v. v.items) value)) }
 {
     bits_value(alloc, span(text, token))

@@ -186,17 +186,10 @@ fn string_types(alloc: Global, value: Option<Vec<u8>>) -> Result<Items<BaseType>
     }
 }
 
-/// The value of a string literal.
-fn string_value(alloc: Global, text: &[u8], token: &Token) -> Result<Option<Vec<u8>>, AllocError>
-    ensures { IfOk result (λ value. option_map (λ v. v.items) value ≡ text_value (span text.now token.now)) }
-{
-    string(alloc, text, token)
-}
-
 fn text_types(alloc: Global, text: &[u8], token: &Token) -> Result<Items<BaseType>, AllocError>
     ensures { IfOk result (λ v. v ≡ spec.string_types (text_value (span text.now token.now))) }
 {
-    let value = string_value(alloc, text, token)?;
+    let value = string(alloc, text, token)?;
     string_types(alloc, value)
 }
 

@@ -1,17 +1,13 @@
 //! What the names and expressions of a design file mean, worked out by hand.
 
-use crate::rules::{ALSO_MET, MET};
 use std::alloc::Global;
 use std::test::Fail;
 use vhdl_names::resolve_names;
 use vhdl_reader::read_design;
 use vhdl_tokens::tokens;
 use vhdl_units::{
-    ChoiceValue, ItemValue, LinkValue, PartValue, RangeValue, Reference, ResolvedActual,
-    ResolvedArchitecture, ResolvedAssociation, ResolvedBody, ResolvedConcurrentBody,
-    ResolvedConstraint, ResolvedDeclaration, ResolvedDelay, ResolvedElement, ResolvedObjects,
-    ResolvedScheme, ResolvedSensitivity, ResolvedStatement, ResolvedSubtype, ResolvedUnit, Units,
-    Value,
+    ChoiceValue, ItemValue, LinkValue, PartValue, Reference, ResolvedArchitecture,
+    ResolvedConcurrentBody, ResolvedDeclaration, ResolvedUnit, Units, Value,
 };
 
 // ---- values as texts: `Bit#1` is a literal by its type and position, `@15` an object by its number, `!` follows
@@ -211,7 +207,7 @@ fn shown(alloc: Global, units: &Units) -> Result<String, Fail> {
 // ---- expressions
 
 /// What stands in an architecture, and what it means. The first declaration of the design has the number 14.
-const MEANINGS: [(&str, &str); 23] = [
+const MEANINGS: [(&str, &str); 24] = [
     // objects have the numbers of their declarations
     ("signal a, b : bit; begin b <= a;", "14:15:;@15<=@14;"),
     // a literal is of the type that is asked, at its position there
@@ -256,6 +252,11 @@ const MEANINGS: [(&str, &str); 23] = [
     (
         "constant c : bit_vector (0 to 2) := \"01\" & '1'; begin",
         "14:BitVector[BitVector\"01\" Concatenate Bit#1];",
+    ),
+    // a sum may be joined to more
+    (
+        "signal v : integer_vector (0 to 1); begin v <= 1 + 2 & 3; v <= - 1 - 2 & 3;",
+        "14:;@14<=IntegerVector[1 Add 2 Concatenate 3];@14<=IntegerVector[Minus:Integer(1) Subtract 2 Concatenate 3];",
     ),
     (
         "constant c : std_ulogic := not ('1' and 'X'); begin",
@@ -329,247 +330,4 @@ fn all_mean(alloc: Global, rows: &[(&str, &str)]) -> Result<(), Fail> {
 #[test]
 fn gives_names_and_expressions_their_meanings(rt: HostRuntime) -> Result<(), Fail> {
     all_mean(rt.alloc(), &MEANINGS)
-}
-
-// ---- all that stands in a file, so that what has no meaning shows
-
-fn push_optional(out: &mut String, value: &Option<Value>) -> Result<(), Fail> {
-    if let Some(value) = value {
-        push_value(out, value)?;
-    }
-    Ok(())
-}
-
-fn push_range(out: &mut String, range: &RangeValue) -> Result<(), Fail> {
-    match range {
-        RangeValue::Unknown => out.push('?')?,
-        RangeValue::Bounds(left, direction, right) => {
-            push_value(out, left)?;
-            write!(out, " {direction:?} ")?;
-            push_value(out, right)?;
-        }
-        RangeValue::Of(reference) => push_reference(out, reference)?,
-    }
-    Ok(())
-}
-
-fn push_subtype(out: &mut String, subtype: &ResolvedSubtype) -> Result<(), Fail> {
-    match subtype.mark {
-        Some(mark) => {
-            let number = mark.number;
-            write!(out, ":{number}")?;
-        }
-        None => out.push('?')?,
-    }
-    match &subtype.constraint {
-        Some(ResolvedConstraint::Range(range)) => push_range(out, range)?,
-        Some(ResolvedConstraint::Index(range)) => push_range(out, range)?,
-        None => {}
-    }
-    Ok(())
-}
-
-fn push_objects(out: &mut String, objects: &ResolvedObjects) -> Result<(), Fail> {
-    push_subtype(out, &objects.subtype)?;
-    push_optional(out, &objects.initial)?;
-    out.push(';')?;
-    Ok(())
-}
-
-fn push_all_declarations(
-    out: &mut String,
-    declarations: &[ResolvedDeclaration],
-) -> Result<(), Fail> {
-    for declaration in declarations {
-        match declaration {
-            ResolvedDeclaration::Objects(objects) => push_objects(out, objects)?,
-            ResolvedDeclaration::Subtype(_, subtype) => push_subtype(out, subtype)?,
-            ResolvedDeclaration::Type(_) => out.push('T')?,
-            ResolvedDeclaration::Foreign(value) => push_value(out, value)?,
-        }
-    }
-    Ok(())
-}
-
-fn push_waveform(out: &mut String, waveform: &[ResolvedElement]) -> Result<(), Fail> {
-    for element in waveform {
-        push_value(out, &element.value)?;
-        out.push('@')?;
-        push_optional(out, &element.after)?;
-    }
-    Ok(())
-}
-
-fn push_delay(out: &mut String, delay: &ResolvedDelay) -> Result<(), Fail> {
-    if let ResolvedDelay::Reject(value) = delay {
-        push_value(out, value)?;
-    }
-    Ok(())
-}
-
-fn push_scheme(out: &mut String, scheme: &ResolvedScheme) -> Result<(), Fail> {
-    match scheme {
-        ResolvedScheme::Forever => {}
-        ResolvedScheme::While(value) => push_value(out, value)?,
-        ResolvedScheme::For(_, base, range) => {
-            write!(out, "{base:?} ")?;
-            push_range(out, range)?;
-        }
-    }
-    Ok(())
-}
-
-#[cycle(all)]
-fn push_statements(out: &mut String, statements: &[ResolvedStatement]) -> Result<(), Fail> {
-    for statement in statements {
-        push_body(out, &statement.body)?;
-        out.push(';')?;
-    }
-    Ok(())
-}
-
-#[cycle(all)]
-fn push_body(out: &mut String, body: &ResolvedBody) -> Result<(), Fail> {
-    match body {
-        ResolvedBody::Wait(wait) => {
-            for name in wait.on.as_slice() {
-                push_value(out, name)?;
-            }
-            push_optional(out, &wait.until)?;
-            push_optional(out, &wait.time)?;
-        }
-        ResolvedBody::Assert(assertion) => push_value(out, &assertion.condition)?,
-        ResolvedBody::Report(_) => {}
-        ResolvedBody::Signal(assignment) => {
-            push_value(out, &assignment.target)?;
-            push_delay(out, &assignment.delay)?;
-            push_waveform(out, assignment.waveform.as_slice())?;
-        }
-        ResolvedBody::Variable(target, value) => {
-            push_value(out, target)?;
-            push_value(out, value)?;
-        }
-        ResolvedBody::If(statement) => {
-            push_value(out, &statement.condition)?;
-            push_statements(out, statement.statements.as_slice())?;
-            for elsif in statement.elsifs.as_slice() {
-                push_value(out, &elsif.condition)?;
-                push_statements(out, elsif.statements.as_slice())?;
-            }
-            push_statements(out, statement.otherwise.as_slice())?;
-        }
-        ResolvedBody::Case(statement) => {
-            push_value(out, &statement.subject)?;
-            for arm in statement.arms.as_slice() {
-                push_choices(out, arm.choices.as_slice())?;
-                push_statements(out, arm.statements.as_slice())?;
-            }
-        }
-        ResolvedBody::Loop(statement) => {
-            push_scheme(out, &statement.scheme)?;
-            push_statements(out, statement.statements.as_slice())?;
-        }
-        ResolvedBody::Next(jump) => push_optional(out, &jump.condition)?,
-        ResolvedBody::Exit(jump) => push_optional(out, &jump.condition)?,
-        ResolvedBody::Null => {}
-    }
-    Ok(())
-}
-
-fn push_associations(out: &mut String, associations: &[ResolvedAssociation]) -> Result<(), Fail> {
-    for association in associations {
-        match association.formal {
-            Some(object) => {
-                let number = object.number;
-                write!(out, "{number}=>")?;
-            }
-            None => out.push('?')?,
-        }
-        match &association.actual {
-            ResolvedActual::Value(value) => push_value(out, value)?,
-            ResolvedActual::Open => out.push_str("open")?,
-        }
-    }
-    Ok(())
-}
-
-fn push_concurrent(out: &mut String, body: &ResolvedConcurrentBody) -> Result<(), Fail> {
-    match body {
-        ResolvedConcurrentBody::Process(process) => {
-            if let ResolvedSensitivity::Names(names) = &process.sensitivity {
-                for name in names.as_slice() {
-                    push_value(out, name)?;
-                }
-            }
-            push_all_declarations(out, process.declarations.as_slice())?;
-            push_statements(out, process.statements.as_slice())?;
-        }
-        ResolvedConcurrentBody::Assignment(assignment) => {
-            push_value(out, &assignment.target)?;
-            push_delay(out, &assignment.delay)?;
-            push_waveform(out, assignment.waveform.as_slice())?;
-            for alternative in assignment.alternatives.as_slice() {
-                push_value(out, &alternative.condition)?;
-                push_waveform(out, alternative.otherwise.as_slice())?;
-            }
-            push_optional(out, &assignment.condition)?;
-        }
-        ResolvedConcurrentBody::Instance(instance) => {
-            if instance.entity.is_none() {
-                out.push('?')?;
-            }
-            push_associations(out, instance.generics.as_slice())?;
-            push_associations(out, instance.ports.as_slice())?;
-        }
-    }
-    out.push(';')?;
-    Ok(())
-}
-
-fn all(alloc: Global, units: &Units) -> Result<String, Fail> {
-    let mut out = String::new(alloc);
-    for unit in units.units.as_slice() {
-        match unit {
-            ResolvedUnit::Entity(entity) => {
-                for objects in entity.generics.as_slice() {
-                    push_objects(&mut out, objects)?;
-                }
-                for objects in entity.ports.as_slice() {
-                    push_objects(&mut out, objects)?;
-                }
-            }
-            ResolvedUnit::Architecture(architecture) => {
-                if architecture.entity.is_none() {
-                    out.push('?')?;
-                }
-                push_all_declarations(&mut out, architecture.declarations.as_slice())?;
-                for statement in architecture.statements.as_slice() {
-                    push_concurrent(&mut out, &statement.body)?;
-                }
-            }
-        }
-    }
-    Ok(out)
-}
-
-fn has_meanings(alloc: Global, text: &str) -> Result<(), Fail> {
-    let units = units_of(alloc, text)?;
-    let shown = all(alloc, &units)?;
-    if shown.as_bytes().contains(&b'?') {
-        return Err(Fail::new(format_args!("{text}: {shown}")));
-    }
-    Ok(())
-}
-
-fn all_have_meanings(alloc: Global, texts: &[&'static str]) -> Result<(), Fail> {
-    for text in texts {
-        has_meanings(alloc, *text)?;
-    }
-    Ok(())
-}
-
-#[test]
-fn leaves_nothing_without_a_meaning_where_no_rule_is_broken(rt: HostRuntime) -> Result<(), Fail> {
-    all_have_meanings(rt.alloc(), &MET)?;
-    all_have_meanings(rt.alloc(), &ALSO_MET)
 }

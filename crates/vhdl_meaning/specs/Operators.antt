@@ -58,7 +58,6 @@ chain_by first l links = candidate_with
     ((out-Candidate first).is_static && list_all link_is_static links)
     (pending.Chain
     (relation_of (out-CandidateLink l).operator (out-Candidate first).types (out-Candidate (out-CandidateLink l).right).types)
-    (out-CandidateLink l).operator
     first
     links)
 

@@ -4,7 +4,6 @@ use Rattle.vhdl_meaning.specs.declared.candidates.Candidate.{Candidate}
 use Rattle.vhdl_meaning.specs.declared.candidates.CandidateItem.{CandidateItem}
 use Rattle.vhdl_meaning.specs.declared.candidates.CandidateLink.{CandidateLink}
 use Rattle.vhdl_meaning.specs.declared.candidates.Open.{Open}
-use Rattle.vhdl_operators.specs.Places.{only}
 use Rattle.vhdl_operators.specs.Sets.{has}
 use Rattle.vhdl_tree.specs.declared.expressions.Operator.{Operator}
 use Rattle.vhdl_types.specs.Types.{element, same}
@@ -16,7 +15,6 @@ use Rattle.vhdl_units.specs.declared.values.LinkValue.{LinkValue}
 use Rattle.vhdl_units.specs.declared.values.Value.{Value}
 use Rattle.vhdl_types.specs.declared.base_type.BaseType.TheVariants as base
 use Rattle.vhdl_types.specs.declared.entry.Entry.TheVariants as entry
-use Rattle.vhdl_tree.specs.declared.expressions.Operator.TheVariants as operator
 use Rattle.vhdl_units.specs.declared.values.Value.TheVariants as value
 use Rattle.vhdl_meaning.specs.declared.candidates.Open.TheOpen.{Open-F, Candidate-F, CandidateItem-F, CandidateLink-F}  -- keep
 use Rattle.vhdl_meaning.specs.declared.candidates.Open.TheFolds.{fold-Open, fold-Candidate, fold-CandidateItem, fold-CandidateLink}  -- keep
@@ -35,24 +33,18 @@ unfoldable pub element_or : Option BaseType → BaseType
 element_or (Some e) = e
 element_or None = base.Integer
 
--- an operand of `&` of the array type t is such an array, or an element of one
-unfoldable pub joined_type : BaseType → List BaseType → BaseType
-joined_type t types = if has types t then t else element_or (element t)
+unfoldable pub first_or : BaseType → List BaseType → BaseType
+first_or t [] = t
+first_or t (u ∷ types) = u
 
--- an operand of `*`, `/`, `mod`, `rem` or `**` has one type
-unfoldable pub only_type : Option BaseType → BaseType
-only_type (Some t) = t
-only_type None = base.Integer
+-- of an operand that isn't of the type that its operators give: of the elements of the array that `&` joins it to, or else of
+-- the one type that it has, as for `*`, `/`, `mod`, `rem` and `**`
+unfoldable pub other_type : BaseType → List BaseType → BaseType
+other_type e types = if has types e then e else first_or e types
 
--- the type that is asked of an operand that can have these types, where the operands share t or the operator gives it
-unfoldable pub operand_type : Operator → BaseType → List BaseType → BaseType
-operand_type operator.Concatenate t types = joined_type t types
-operand_type operator.Multiply t types = only_type (only types)
-operand_type operator.Divide t types = only_type (only types)
-operand_type operator.Mod t types = only_type (only types)
-operand_type operator.Rem t types = only_type (only types)
-operand_type operator.Power t types = only_type (only types)
-operand_type _ t types = t
+-- the type that is asked of an operand which can have these types, where the operands share t or their operators give it
+unfoldable pub operand_type : BaseType → List BaseType → BaseType
+operand_type t types = if has types t then t else other_type (element_or (element t)) types
 
 -- the type that a relation's operands share, or what is asked of the whole
 unfoldable pub shared : Option BaseType → BaseType → BaseType
@@ -74,17 +66,17 @@ pub record SettledItem : Type 0 where
   pub choices : List ChoiceValue
   pub value : Settled
 
-unfoldable pub operand_at : Operator → BaseType → Settled → Value
-operand_at op t s = s.at (operand_type op t s.types)
+unfoldable pub operand_at : BaseType → Settled → Value
+operand_at t s = s.at (operand_type t s.types)
 
 unfoldable pub link_at : BaseType → SettledLink → LinkValue
-link_at t l = record { operator = l.operator; right = operand_at l.operator t l.right }
+link_at t l = record { operator = l.operator; right = operand_at t l.right }
 
 unfoldable pub item_at : BaseType → SettledItem → ItemValue
 item_at t item = record { choices = item.choices; value = item.value.at t }
 
-unfoldable pub chain_at : BaseType → BaseType → Operator → Settled → List SettledLink → Value
-chain_at t operands op first links = value.Chain t (operand_at op operands first) (map (link_at operands) links)
+unfoldable pub chain_at : BaseType → BaseType → Settled → List SettledLink → Value
+chain_at t operands first links = value.Chain t (operand_at operands first) (map (link_at operands) links)
 
 -- no other meaning than one of the type that is asked
 unfoldable pub at_types : List BaseType → (BaseType → Value) → BaseType → Value
@@ -95,7 +87,7 @@ open_step (Open-F.Value v) t = v
 open_step (Open-F.Literals entries) t = literal_at t entries
 open_step (Open-F.Text bytes) t = value.Text t bytes
 open_step (Open-F.Unary op inner) t = value.Unary op t (inner.at t)
-open_step (Open-F.Chain relation op first links) t = chain_at t (shared relation t) op first links
+open_step (Open-F.Chain relation first links) t = chain_at t (shared relation t) first links
 open_step (Open-F.Aggregate items) t = value.Aggregate t (map (item_at (element_or (element t))) items)
 
 abbrev pub candidate_step : Candidate-F (BaseType → Value) Settled SettledItem SettledLink → Settled

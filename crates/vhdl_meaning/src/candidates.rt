@@ -28,9 +28,9 @@ pub enum Open {
     /// The characters of a string or bit string literal.
     Text(Items<u8>),
     Unary(Unary, Boxed<Candidate>),
-    /// The type that the operands of a relation share, where the operator is one; the operator behind the
-    /// first operand, that operand, and the links.
-    Chain(Option<BaseType>, Operator, Boxed<Candidate>, Items<CandidateLink>),
+    /// The type that the operands of a relation share, where the operator is one; the first operand, and the
+    /// links.
+    Chain(Option<BaseType>, Boxed<Candidate>, Items<CandidateLink>),
     Aggregate(Items<CandidateItem>),
 }
 

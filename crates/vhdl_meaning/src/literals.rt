@@ -14,7 +14,7 @@ use sqlite_items::Items;
 use std::alloc::{AllocError, Global};
 use vhdl_operators::{of_bits, of_string};
 use vhdl_scope::Regions;
-use vhdl_tokens::{Kind, Token, bits, integer, one_value, string};
+use vhdl_tokens::{Kind, Token, bits, integer, string};
 use vhdl_types::{BaseType, Entry, TimeUnit};
 use vhdl_typing::{femtoseconds_in, literal_types, look};
 use vhdl_units::Value;
@@ -163,31 +163,17 @@ fn bits_candidate(alloc: Global, value: Option<Vec<bool>>) -> Result<Candidate, 
     }
 }
 
-fn string_value(alloc: Global, text: &[u8], token: &Token) -> Result<Option<Vec<u8>>, AllocError>
-    ensures { IfOk result (λ value. option_map (λ v. v.items) value ≡ text_value (span text.now token.now)) }
-{
-    string(alloc, text, token)
-}
-
-fn bits_values(alloc: Global, text: &[u8], token: &Token) -> Result<Option<Vec<bool>>, AllocError>
-    ensures { IfOk result (λ value. option_map (λ v. v.items) value ≡ bits_value (span text.now token.now)) }
-{
-    // The law that bytes spell one value is used in the proof.
-    one_value();
-    bits(alloc, text, token)
-}
-
 fn text_literal(alloc: Global, text: &[u8], token: &Token) -> Result<Candidate, AllocError>
     ensures { IfOk result (λ v. v ≡ spec.text_candidate (text_value (span text.now token.now))) }
 {
-    let value = string_value(alloc, text, token)?;
+    let value = string(alloc, text, token)?;
     text_candidate(alloc, value)
 }
 
 fn bits_literal(alloc: Global, text: &[u8], token: &Token) -> Result<Candidate, AllocError>
     ensures { IfOk result (λ v. v ≡ spec.bits_candidate (bits_value (span text.now token.now))) }
 {
-    let value = bits_values(alloc, text, token)?;
+    let value = bits(alloc, text, token)?;
     bits_candidate(alloc, value)
 }
 

@@ -144,20 +144,15 @@ pub(crate) fn chain(
     match links.as_slice() {
         [] => Ok(first),
         [link, ..] => {
-            let operator = link.operator;
             let relation = relation_of(
-                operator,
+                link.operator,
                 first.types.as_slice(),
                 link.right.types.as_slice(),
             );
             let types = chain_types(alloc, first.types.as_slice(), links.as_slice())?;
             let is_static = first.is_static && links_are_static(links.as_slice());
             let first = Boxed::new(alloc, first)?;
-            Ok(candidate_with(
-                types,
-                is_static,
-                Open::Chain(relation, operator, first, links),
-            ))
+            Ok(candidate_with(types, is_static, Open::Chain(relation, first, links)))
         }
     }
 }

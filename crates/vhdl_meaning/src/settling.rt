@@ -6,8 +6,7 @@ ghost use Rattle.vhdl_meaning.specs.Settling as spec;
 use crate::candidates::{Candidate, CandidateItem, CandidateLink, Open};
 use sqlite_items::{Boxed, Items};
 use std::alloc::{AllocError, Global};
-use vhdl_operators::{has, only};
-use vhdl_tree::Operator;
+use vhdl_operators::has;
 use vhdl_types::{BaseType, Entry};
 use vhdl_units::{ItemValue, LinkValue, Value};
 
@@ -35,39 +34,35 @@ fn element_or(base: Option<BaseType>) -> BaseType
     }
 }
 
-#[tactic(auto, unfolding(crate::specs::Settling::joined_type))]
-fn joined_type(base: BaseType, types: &[BaseType]) -> BaseType
-    ensures { result ≡ spec.joined_type base types.now }
+#[tactic(auto, unfolding(crate::specs::Settling::first_or))]
+fn first_or(base: BaseType, types: &[BaseType]) -> BaseType
+    ensures { result ≡ spec.first_or base types.now }
+{
+    match types {
+        [] => base,
+        [first, ..] => *first,
+    }
+}
+
+#[tactic(auto, unfolding(crate::specs::Settling::other_type))]
+fn other_type(base: BaseType, types: &[BaseType]) -> BaseType
+    ensures { result ≡ spec.other_type base types.now }
 {
     if has(types, base) {
         base
     } else {
-        element_or(base.element())
-    }
-}
-
-#[tactic(auto, unfolding(crate::specs::Settling::only_type))]
-fn only_type(base: Option<BaseType>) -> BaseType
-    ensures { result ≡ spec.only_type base }
-{
-    match base {
-        Some(base) => base,
-        None => BaseType::Integer,
+        first_or(base, types)
     }
 }
 
 #[tactic(auto, unfolding(crate::specs::Settling::operand_type))]
-fn operand_type(operator: Operator, base: BaseType, types: &[BaseType]) -> BaseType
-    ensures { result ≡ spec.operand_type operator base types.now }
+fn operand_type(base: BaseType, types: &[BaseType]) -> BaseType
+    ensures { result ≡ spec.operand_type base types.now }
 {
-    match operator {
-        Operator::Concatenate => joined_type(base, types),
-        Operator::Multiply => only_type(only(types)),
-        Operator::Divide => only_type(only(types)),
-        Operator::Mod => only_type(only(types)),
-        Operator::Rem => only_type(only(types)),
-        Operator::Power => only_type(only(types)),
-        _ => base,
+    if has(types, base) {
+        base
+    } else {
+        other_type(element_or(base.element()), types)
     }
 }
 
@@ -108,9 +103,9 @@ fn settle_open(alloc: Global, form: Open, base: BaseType) -> Result<Value, Alloc
             let inner = settle(alloc, inner.into_inner(), base)?;
             Ok(Value::Unary(operator, base, Boxed::new(alloc, inner)?))
         }
-        Open::Chain(relation, operator, first, links) => {
+        Open::Chain(relation, first, links) => {
             let operands = shared(relation, base);
-            let first = settle_operand(alloc, operator, operands, first.into_inner())?;
+            let first = settle_operand(alloc, operands, first.into_inner())?;
             let links = settle_links(alloc, links, operands)?;
             Ok(Value::Chain(base, Boxed::new(alloc, first)?, links))
         }
@@ -123,15 +118,10 @@ fn settle_open(alloc: Global, form: Open, base: BaseType) -> Result<Value, Alloc
 
 #[cycle(settle)]
 #[tactic(auto, unfolding(crate::specs::Settling::operand_at))]
-fn settle_operand(
-    alloc: Global,
-    operator: Operator,
-    base: BaseType,
-    operand: Candidate,
-) -> Result<Value, AllocError>
-    ensures { IfOk result (λ v. v ≡ spec.operand_at operator base (spec.settled_candidate operand)) }
+fn settle_operand(alloc: Global, base: BaseType, operand: Candidate) -> Result<Value, AllocError>
+    ensures { IfOk result (λ v. v ≡ spec.operand_at base (spec.settled_candidate operand)) }
 {
-    let asked = operand_type(operator, base, operand.types.as_slice());
+    let asked = operand_type(base, operand.types.as_slice());
     settle(alloc, operand, asked)
 }
 
@@ -158,7 +148,7 @@ fn settle_link(alloc: Global, link: CandidateLink, base: BaseType) -> Result<Lin
     ensures { IfOk result (λ v. v ≡ spec.link_at base (spec.settled_link link)) }
 {
     let CandidateLink { operator, right } = link;
-    let right = settle_operand(alloc, operator, base, right)?;
+    let right = settle_operand(alloc, base, right)?;
     Ok(LinkValue { operator, right })
 }
 

@@ -736,7 +736,7 @@ const PLACES: [Refused; 22] = [
     ),
 ];
 
-const STATEMENTS: [Refused; 24] = [
+const STATEMENTS: [Refused; 26] = [
     // a constant
     (
         11,
@@ -791,6 +791,16 @@ const STATEMENTS: [Refused; 24] = [
     (
         12,
         "entity e is end; architecture a of e is begin process (all) begin if true then ^wait for 1 ns; end if; end process; end;",
+    ),
+    // a name of the wrong kind in the wait, which isn't tested then
+    (
+        6,
+        "entity e is end; architecture a of e is begin process (all) begin wait on ^bit; end process; end;",
+    ),
+    // the same beside a name that is no signal
+    (
+        13,
+        "entity e is end; architecture a of e is begin process (all) variable v : bit; begin wait on ^v, true; end process; end;",
     ),
     // an index that isn't static
     (
@@ -859,7 +869,7 @@ const STATEMENTS: [Refused; 24] = [
     ),
 ];
 
-const VALUES: [Refused; 23] = [
+const VALUES: [Refused; 24] = [
     // both forms
     (
         16,
@@ -889,6 +899,11 @@ const VALUES: [Refused; 23] = [
     (
         16,
         "entity e is end; architecture a of e is begin process variable n : integer; variable v : bit_vector(0 to 3); begin v(0 to n) := ^(0 => '1', others => '0'); wait; end process; end;",
+    ),
+    // a slice of a slice
+    (
+        16,
+        "entity e is end; architecture a of e is begin process variable n : integer; variable v : bit_vector(0 to 3); begin v(0 to 3)(0 to n) := ^(0 => '1', others => '0'); wait; end process; end;",
     ),
     // no such attribute
     (
@@ -1083,7 +1098,7 @@ const ORDER: [Refused; 5] = [
     ),
 ];
 
-pub(crate) const MET: [&'static str; 25] = [
+const MET: [&'static str; 25] = [
     // two entities
     "entity e is end; entity f is end;",
     // two architectures
@@ -1136,7 +1151,7 @@ pub(crate) const MET: [&'static str; 25] = [
     "entity e is end; architecture a of e is signal b : boolean; signal u : std_ulogic; begin b <= u = '0'; b <= '1' = u;  end;",
 ];
 
-pub(crate) const ALSO_MET: [&'static str; 25] = [
+const ALSO_MET: [&'static str; 26] = [
     // strings and bits
     "entity e is end; architecture a of e is signal v : bit_vector(0 to 3) := \"0101\"; signal w : std_ulogic_vector(0 to 3) := \"01XZ\"; signal x : string(1 to 4) := \"abcd\"; signal y : bit_vector(0 to 3) := X\"A\"; signal z : std_logic_vector(0 to 2) := O\"7\"; begin end;",
     // aggregates
@@ -1183,6 +1198,8 @@ pub(crate) const ALSO_MET: [&'static str; 25] = [
     "entity c is port (v : in bit_vector(0 to 3)); end; entity e is end; architecture a of e is begin x : entity c port map ((0 => '1', others => '0')); end;",
     // a foreign architecture
     "entity e is end; architecture a of e is attribute foreign of a : architecture is \" VHPI lib  model \"; begin end;",
+    // a slice with static bounds of one without
+    "entity e is end; architecture a of e is begin process variable n : integer; variable v : bit_vector(0 to 3); begin v(n to 3)(0 to 1) := (0 => '1', others => '0'); wait; end process; end;",
     // numbers
     "entity e is end; architecture a of e is signal n : integer := 2147483647; signal t : time := 9223372036854775807 fs; signal u : time := 2 hr; signal m : integer := -2147483647; begin end;",
     // constants and generics in values

@@ -57,7 +57,7 @@ target_type n = target_type_as n.denotes
 
 -- whether the bounds of the target are globally static: those of a declared object are, those of a slice may not be
 unfoldable pub is_static_target_as : Denotes → Bool
-is_static_target_as (denotes.Object o) = o.is_static
+is_static_target_as (denotes.Object o) = o.has_static_bounds
 is_static_target_as _ = true
 
 unfoldable pub is_static_target : NameTold → Bool
@@ -98,8 +98,15 @@ sensitivity_faults names = flat_map sensitive_faults names
 
 -- ---- waits
 
+-- no object is named
+unfoldable pub is_no_object : Denotes → Bool
+is_no_object denotes.Unknown = false
+is_no_object (denotes.Object o) = false
+is_no_object _ = true
+
+-- the breaks of visibility, kinds and attributes in a name of a sensitivity list, which may itself be of the wrong kind
 unfoldable pub names_of : NameTold → List Fault
-names_of n = n.names
+names_of n = n.names ++ (if is_no_object n.denotes then at n.place rule.WrongKind else [])
 
 unfoldable pub wait_names : WaitTold → List Fault
 wait_names wait = flat_map names_of wait.on ++ (optional_names wait.until ++ optional_names wait.time)

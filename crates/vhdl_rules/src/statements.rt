@@ -103,7 +103,7 @@ fn is_static_target(target: &NameTold) -> bool
     ensures { result ≡ spec.is_static_target target.now }
 {
     match target.denotes {
-        Denotes::Object(object) => object.is_static,
+        Denotes::Object(object) => object.has_static_bounds,
         _ => true,
     }
 }
@@ -241,10 +241,29 @@ pub fn sensitivity_faults(alloc: Global, names: Items<NameTold>) -> Result<Items
     Ok(faults)
 }
 
-fn are_known(names: &[NameTold]) -> bool
-    ensures { result ≡ list_all (λ n. faults_spec.is_known n.names) names.now }
+#[tactic(auto, unfolding(crate::specs::Statements::is_no_object))]
+fn is_no_object(denotes: &Denotes) -> bool
+    ensures { result ≡ spec.is_no_object denotes.now }
 {
-    names.iter().all(|name| is_known(name.names.as_slice()))
+    match denotes {
+        Denotes::Unknown | Denotes::Object(_) => false,
+        _ => true,
+    }
+}
+
+/// Whether neither a name in a name of a sensitivity list nor the name itself breaks a rule of visibility, kinds
+/// or attributes.
+#[tactic(auto, using(crate::proofs::KnownParts::name_known))]
+fn is_name_known(name: &NameTold) -> bool
+    ensures { result ≡ faults_spec.is_known (spec.names_of name.now) }
+{
+    is_known(name.names.as_slice()) && !is_no_object(&name.denotes)
+}
+
+fn are_known(names: &[NameTold]) -> bool
+    ensures { result ≡ list_all (λ n. faults_spec.is_known (spec.names_of n)) names.now }
+{
+    names.iter().all(is_name_known)
 }
 
 /// Whether no name in an expression that may be left out breaks a rule of visibility, kinds or attributes.

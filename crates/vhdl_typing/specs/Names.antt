@@ -41,7 +41,7 @@ unfoldable pub literal_types : List Entry → List BaseType
 literal_types entries = filter_map literal_type entries
 
 unfoldable pub object_name : Object → ObjectName
-object_name o = record { object = o; base = Some o.base; is_static = true }
+object_name o = record { object = o; base = Some o.base; is_static = true; has_static_bounds = true }
 
 unfoldable pub denoted : Entry → Denotes
 denoted (entry.Subtype mark) = denotes.Subtype mark
@@ -123,7 +123,7 @@ unfoldable pub misfits : Denotes → NameTold → NameTold
 misfits d n = record n { denotes = d; types = []; is_misfit = true }
 
 unfoldable pub part_of : ObjectName → Option BaseType → Bool → ObjectName
-part_of o t is_static = record o { base = t; is_static = o.is_static && is_static }
+part_of o t is_static = record o { base = t; is_static = o.is_static && is_static; has_static_bounds = is_static }
 
 unfoldable pub element_of : Option BaseType → Option BaseType
 element_of None = None

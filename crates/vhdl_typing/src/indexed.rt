@@ -22,6 +22,7 @@ fn part_of(object: ObjectName, base: Option<BaseType>, is_static: bool) -> Objec
         object: object.object,
         base,
         is_static: object.is_static && is_static,
+        has_static_bounds: is_static,
     }
 }
 

@@ -53,6 +53,7 @@ fn object_name(object: Object) -> ObjectName
         object,
         base: Some(object.base),
         is_static: true,
+        has_static_bounds: true,
     }
 }
 

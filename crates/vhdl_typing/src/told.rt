@@ -13,6 +13,9 @@ pub struct ObjectName {
     pub base: Option<BaseType>,
     /// Whether each index and slice is globally static, so that it is a static name (8.1).
     pub is_static: bool,
+    /// Whether the bounds of what is named are globally static: those of a declared object are, those of a slice
+    /// where its own range is.
+    pub has_static_bounds: bool,
 }
 
 /// An attribute of an enumeration type that takes an argument (16.2).

@@ -1,0 +1,10 @@
+pub mod Empty
+pub mod Values
+pub mod Names
+pub mod Objects
+pub mod Simple
+pub mod Heads
+pub mod Declares
+pub mod Instances
+pub mod Foreign
+pub mod Lawful

@@ -1,0 +1,116 @@
+-- Operators side by side, from left to right.
+use Rattle.std.proofs.Common.{◌≡◌, ◌&&◌, ℕ, true, List, [], ◌∷◌, map, refl, ap, ◌∙◌}
+use Rattle.std.proofs.lemmas.Bool.{and_from}
+use Rattle.std.specs.List.{list_all}
+use Rattle.vhdl_known_values.proofs.Free.{own_typing, step_free}
+use Rattle.vhdl_known_values.proofs.Knows.{known_chain, known_link_of}
+use Rattle.vhdl_known_values.proofs.Operands.{is_typed, operand_has, typed, typed_operands}
+use Rattle.vhdl_known_values.proofs.Settles.{link_settled, open_chain, settled_own, settled_types, types_with}
+use Rattle.vhdl_known_values.specs.Known.{all_known, known_link, known_value}
+use Rattle.vhdl_known_values.specs.Lists.{LinksTell}
+use Rattle.vhdl_known_values.specs.Tells.{Agrees, Tells}
+use Rattle.vhdl_meaning.specs.Operators.{chain, chain_by, chain_types, link_is_static, relation_of}
+use Rattle.vhdl_meaning.specs.Settling.{chain_at, link_at, operand_at, operand_type, settled, settled_candidate, settled_link, shared}
+use Rattle.vhdl_meaning.specs.declared.candidates.Candidate.{Candidate, out-Candidate}
+use Rattle.vhdl_meaning.specs.declared.candidates.CandidateLink.{CandidateLink, out-CandidateLink}
+use Rattle.vhdl_operators.specs.Sets.{has}
+use Rattle.vhdl_types.specs.declared.base_type.BaseType.{BaseType}
+use Rattle.vhdl_typing.specs.Expressions.{joined, joined_by, operand, operated}
+use Rattle.vhdl_typing.specs.declared.told.LinkTold.{LinkTold}
+use Rattle.vhdl_typing.specs.declared.told.Told.{Told}
+use Rattle.vhdl_meaning.specs.declared.candidates.Open.TheVariants as pending
+
+-- ---- an operand means something at the type that is asked of it, whichever that is
+
+operand_known : (u : BaseType) (told : Told) (c : Candidate) → Agrees told c → is_typed told.types ≡ true → known_value (operand_at u (settled_candidate c)) ≡ true
+unfolding operand_at
+operand_known u told c a h =
+    ap (λ types. known_value ((settled_candidate c).at (operand_type u types))) (settled_types c ∙ a.types) ∙ a.known (operand_type u told.types) (operand_has u told.types h)
+
+link_known : (u : BaseType) (right : Told) (c : CandidateLink) → Agrees right (out-CandidateLink c).right → is_typed right.types ≡ true → known_link (link_at u (settled_link c)) ≡ true
+unfolding link_at
+link_known u right c a h =
+    ap (λ k. known_link (link_at u k)) (link_settled c)
+    ∙ known_link_of (out-CandidateLink c).operator (operand_at u (settled_candidate (out-CandidateLink c).right))
+    ∙ operand_known u right (out-CandidateLink c).right a h
+
+-- ---- along the operators
+
+types_along : (so_far : Told) (tolds : List LinkTold) (links : List CandidateLink) → LinksTell tolds links → (joined_by so_far tolds).names ≡ [] → (joined_by so_far tolds).typing ≡ []
+    → chain_types so_far.types links ≡ (joined_by so_far tolds).types
+unfolding LinksTell chain_types joined_by joined operated
+types_along so_far [] [] tell n t = refl
+types_along so_far (l ∷ tolds) (c ∷ links) tell n t =
+    let here = step_free so_far l tolds n t in
+    rw (tell.0.operator, (tell.0.right here.right_names here.right_typing).types) (types_along (joined so_far l.operator l.right) tolds links tell.1 n t)
+types_along so_far [] (c ∷ links) tell n t = absurd tell
+types_along so_far (l ∷ tolds) [] tell n t = absurd tell
+
+abbrev all_at : BaseType → List CandidateLink → Type 0
+all_at u links = all_known (map known_link (map (link_at u) (map settled_link links))) ≡ true
+
+-- Where the whole has a type, each operand has one.
+known_along : (u : BaseType) (so_far : Told) (tolds : List LinkTold) (links : List CandidateLink) → LinksTell tolds links → (joined_by so_far tolds).names ≡ [] → (joined_by so_far tolds).typing ≡ []
+    → is_typed (joined_by so_far tolds).types ≡ true → (is_typed so_far.types ≡ true) × all_at u links
+unfolding LinksTell joined_by joined operated
+known_along u so_far [] [] tell n t h = (h, refl)
+known_along u so_far (l ∷ tolds) (c ∷ links) tell n t h =
+    let here = step_free so_far l tolds n t in
+    let after = known_along u (joined so_far l.operator l.right) tolds links tell.1 n t h in
+    let sides = typed_operands l.operator so_far.types l.right.types here.is_related after.0 in (
+      sides.0,
+      and_from (known_link (link_at u (settled_link c))) (all_known (map known_link (map (link_at u) (map settled_link links))))
+          (link_known u l.right c (tell.0.right here.right_names here.right_typing) sides.1) after.1,
+    )
+known_along u so_far [] (c ∷ links) tell n t h = absurd tell
+known_along u so_far (l ∷ tolds) [] tell n t h = absurd tell
+
+-- ---- whole chains
+
+chain_has : (c : Candidate) (k : CandidateLink) (links : List CandidateLink) → (out-Candidate (chain_by c k links)).types ≡ chain_types (out-Candidate c).types links
+unfolding chain_by
+chain_has c k links = types_with (chain_types (out-Candidate c).types links) ((out-Candidate c).is_static && list_all link_is_static links)
+    (pending.Chain (relation_of (out-CandidateLink k).operator (out-Candidate c).types (out-Candidate (out-CandidateLink k).right).types) c links)
+
+chain_known : (c : Candidate) (k : CandidateLink) (links : List CandidateLink) (t : BaseType) → has (chain_types (out-Candidate c).types links) t ≡ true
+    → ((u : BaseType) → (known_value (operand_at u (settled_candidate c)) ≡ true) × all_at u links) → known_value (settled (chain_by c k links) t) ≡ true
+unfolding chain_by chain_at
+chain_known c k links t h operands =
+    let relation = relation_of (out-CandidateLink k).operator (out-Candidate c).types (out-Candidate (out-CandidateLink k).right).types in
+    let u = shared relation t in
+    let first = operand_at u (settled_candidate c) in
+    let rest = map (link_at u) (map settled_link links) in
+    ap known_value (settled_own (chain_types (out-Candidate c).types links) ((out-Candidate c).is_static && list_all link_is_static links) (pending.Chain relation c links) t h
+    ∙ open_chain relation c links t)
+    ∙ known_chain t first rest
+    ∙ and_from (known_value first) (all_known (map known_link rest)) (operands u).0 (operands u).1
+
+-- an operand with nothing behind it
+operand_tells : (place : ℕ) (first : Told) (c : Candidate) → Tells first c → Tells (operand place first) c
+unfolding operand
+operand_tells place first c tells = λ n t. let a = tells n (own_typing first t) in record { types = a.types; known = a.known }
+
+linked_tells : (place : ℕ) (first : Told) (c : Candidate) (l : LinkTold) (tolds : List LinkTold) (k : CandidateLink) (links : List CandidateLink) → Tells first c → LinksTell (l ∷ tolds) (k ∷ links)
+    → Tells (joined_by (operand place first) (l ∷ tolds)) (chain_by c k (k ∷ links))
+unfolding operand
+linked_tells place first c l tolds k links tells tell = λ n t.
+    let so_far = operand place first in
+    let here = step_free so_far l tolds n t in
+    let a : Agrees first c = tells here.left_names (own_typing first here.left_typing) in
+    let types : chain_types (out-Candidate c).types (k ∷ links) ≡ (joined_by so_far (l ∷ tolds)).types =
+    ap (λ types. chain_types types (k ∷ links)) a.types ∙ types_along so_far (l ∷ tolds) (k ∷ links) tell n t in
+    record {
+      types = chain_has c k (k ∷ links) ∙ types;
+      known = λ u h. chain_known c k (k ∷ links) u (ap (λ types. has types u) types ∙ h) (λ v.
+          let all = known_along v so_far (l ∷ tolds) (k ∷ links) tell n t (typed (joined_by so_far (l ∷ tolds)).types u h) in
+          (operand_known v first c a all.0, all.1));
+    }
+
+-- operators side by side mean what they tell
+pub chain_tells : (place : ℕ) (first : Told) (c : Candidate) (tolds : List LinkTold) (links : List CandidateLink) → Tells first c → LinksTell tolds links
+    → Tells (joined_by (operand place first) tolds) (chain c links)
+unfolding chain joined_by LinksTell
+chain_tells place first c [] [] tells tell = operand_tells place first c tells
+chain_tells place first c (l ∷ tolds) (k ∷ links) tells tell = linked_tells place first c l tolds k links tells tell
+chain_tells place first c [] (k ∷ links) tells tell = absurd tell
+chain_tells place first c (l ∷ tolds) [] tells tell = absurd tell

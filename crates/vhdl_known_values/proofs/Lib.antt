@@ -1,0 +1,14 @@
+pub mod Settles
+pub mod Knows
+pub mod Single
+pub mod Literals
+pub mod Attributes
+pub mod Faults
+pub mod Free
+pub mod Parts
+pub mod Naming
+pub mod Operators
+pub mod Operands
+pub mod Chains
+pub mod Aggregates
+pub mod Whole

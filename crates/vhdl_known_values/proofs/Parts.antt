@@ -1,0 +1,358 @@
+-- What follows an identifier keeps what its name tells and what it denotes together.
+use Rattle.std.proofs.Common.{◌≡◌, ℕ, Bool, true, false, ◌&&◌, if◌then◌else◌, Option, Some, None, List, [], ◌∷◌, ◌++◌, map, inr, refl, ap, sym, ◌∙◌}
+use Rattle.std.proofs.lemmas.Bool.{and_from, and_parts}
+use Rattle.vhdl_known_values.specs.Known.{all_known, known_part, known_value}
+use Rattle.vhdl_known_values.specs.Names.{Begins, IsOne, IsRange, Means, PartTells, PartsTell, meant_by, ruled, ruled_option}
+use Rattle.vhdl_known_values.specs.Meanings.{IsObject}
+use Rattle.vhdl_known_values.specs.Tells.{Tells}
+use Rattle.vhdl_known_values.proofs.Attributes.{attribute_same}
+use Rattle.vhdl_known_values.proofs.Faults.{Fine, asked}
+use Rattle.vhdl_known_values.proofs.Free.{both_empty}
+use Rattle.vhdl_known_values.proofs.Knows.{known_at, known_attribute, known_call, known_index, known_parts, known_position, known_slice}
+use Rattle.vhdl_meaning.specs.Attributes.{attribute_of, attribute_type, is_bound}
+use Rattle.vhdl_meaning.specs.Names as meaning
+use Rattle.vhdl_meaning.specs.Settling.{settled}
+use Rattle.vhdl_meaning.specs.declared.candidates.AttributeName.{AttributeName}
+use Rattle.vhdl_meaning.specs.declared.candidates.Candidate.{Candidate, out-Candidate}
+use Rattle.vhdl_meaning.specs.declared.candidates.Denoted.{Denoted}
+use Rattle.vhdl_meaning.specs.declared.candidates.PartCandidate.{PartCandidate}
+use Rattle.vhdl_tokens.specs.declared.token.Token.{Token}
+use Rattle.vhdl_tree.specs.declared.expressions.Direction.{Direction}
+use Rattle.vhdl_types.specs.Faults.{at}
+use Rattle.vhdl_types.specs.Types.{element, is_array, is_enumeration}
+use Rattle.vhdl_types.specs.declared.base_type.BaseType.{BaseType}
+use Rattle.vhdl_types.specs.declared.entry.Function.{Function}
+use Rattle.vhdl_typing.specs.Attributes.{has_bounds, is_array_type, is_signal}
+use Rattle.vhdl_typing.specs.Faults.{asks, typing_of}
+use Rattle.vhdl_typing.specs.Names as typing
+use Rattle.vhdl_typing.specs.declared.told.Denotes.{Denotes}
+use Rattle.vhdl_typing.specs.declared.told.NameTold.{NameTold}
+use Rattle.vhdl_typing.specs.declared.told.ObjectName.{ObjectName}
+use Rattle.vhdl_typing.specs.declared.told.PartTold.{PartTold}
+use Rattle.vhdl_typing.specs.declared.told.Told.{Told}
+use Rattle.vhdl_typing.specs.declared.told.TypeAttribute.{TypeAttribute}
+use Rattle.vhdl_units.specs.declared.values.ObjectAttribute.{ObjectAttribute}
+use Rattle.vhdl_units.specs.declared.values.PartValue.{PartValue}
+use Rattle.vhdl_types.specs.declared.base_type.BaseType.TheVariants as base
+use Rattle.vhdl_meaning.specs.declared.candidates.AttributeName.TheVariants as name
+use Rattle.vhdl_meaning.specs.declared.candidates.Denoted.TheVariants as denoted
+use Rattle.vhdl_typing.specs.declared.told.Denotes.TheVariants as denotes
+use Rattle.vhdl_types.specs.declared.entry.Function.TheVariants as function
+use Rattle.vhdl_meaning.specs.declared.candidates.PartCandidate.TheVariants as part_candidate
+use Rattle.vhdl_typing.specs.declared.told.PartTold.TheVariants as part_told
+use Rattle.vhdl_types.specs.declared.fault.Rule.TheVariants as rule
+use Rattle.vhdl_typing.specs.declared.told.TypeAttribute.TheVariants as type_attribute
+use Rattle.vhdl_meaning.specs.declared.candidates.TypeAttribute.TheVariants as meant_attribute
+use Rattle.vhdl_units.specs.declared.values.ObjectAttribute.TheVariants as object_attribute
+use Rattle.vhdl_units.specs.declared.values.PartValue.TheVariants as part
+use Rattle.vhdl_units.specs.declared.values.Value.TheVariants as value
+
+-- ---- where a rule is broken, nothing is owed
+
+wrong_begins : (n : NameTold) (d : Denoted) → Begins (typing.wrong_kind n) d
+unfolding typing.wrong_kind
+wrong_begins n d = λ names typed fits. let both = both_empty n.names (at n.place rule.WrongKind) names in absurd cc
+
+misfit_begins : (x : Denotes) (n : NameTold) (d : Denoted) → Begins (typing.misfits x n) d
+unfolding typing.misfits
+misfit_begins x n d = λ names typed fits. absurd cc
+
+no_such_begins : (place : ℕ) (n : NameTold) (d : Denoted) → Begins (typing.has_no_such place n) d
+unfolding typing.has_no_such
+no_such_begins place n d = λ names typed fits. let both = both_empty n.names (at place rule.Attribute) names in absurd cc
+
+or_no_such : (b : Bool) (good : NameTold) (place : ℕ) (n : NameTold) (d : Denoted) → Begins good d → Begins (if b then good else typing.has_no_such place n) d
+or_no_such true good place n d h = h
+or_no_such false good place n d h = no_such_begins place n d
+
+-- ---- what a name has taken
+
+-- where no rule is broken so far, this holds as well, and it denotes what it denoted
+abbrev Took : Denotes → NameTold → Type 0 → Denoted → Type 0
+Took x n A d = n.names ≡ [] → n.typing ≡ [] → n.is_misfit ≡ false → A × Means x n.types d
+
+took_one : (n : NameTold) (told : Told) (d : Denoted) → Begins n d → Took n.denotes (typing.takes n told) (Fine told) d
+unfolding typing.takes
+took_one n told d h = λ names typed fits.
+    let ns = both_empty n.names told.names names in
+    let ts = both_empty n.typing (typing_of told) typed in
+    ((ns.1, ts.1), h ns.0 ts.0 fits)
+
+abbrev BothFine : Told → Told → Type 0
+BothFine left right = Fine left × Fine right
+
+took_two : (n : NameTold) (left right : Told) (d : Denoted) → Begins n d → Took n.denotes (typing.takes (typing.takes n left) right) (BothFine left right) d
+unfolding typing.takes
+took_two n left right d h = λ names typed fits.
+    let ns = both_empty (n.names ++ left.names) right.names names in
+    let ts = both_empty (n.typing ++ typing_of left) (typing_of right) typed in
+    let t = took_one n left d h ns.0 ts.0 fits in
+    ((t.0, (ns.1, ts.1)), t.1)
+
+-- ---- an element
+
+more_known : (parts : List PartValue) (p : PartValue) → all_known (map known_part parts) ≡ true → known_part p ≡ true → all_known (map known_part (parts ++ p ∷ [])) ≡ true
+more_known [] p h k = and_from (known_part p) true k refl
+more_known (q ∷ parts) p h k = let both = and_parts (known_part q) (all_known (map known_part parts)) h in
+    and_from (known_part q) (all_known (map known_part (parts ++ p ∷ []))) both.0 (more_known parts p both.1 k)
+
+element_is : (o : ObjectName) (e : BaseType) (told : Told) (c : Candidate) (d : Denoted) → Some e ≡ typing.element_of o.base → known_value (settled c base.Integer) ≡ true → IsObject o d
+    → IsObject (typing.part_of o (Some e) told.is_static) (meaning.indexed d c)
+unfolding meaning.indexed meaning.element_denoted typing.part_of typing.element_of
+element_is o e told c d same known h = let is : Some e ≡ element h.base = rw h.typed at same in record {
+  base = e;
+  parts = h.parts ++ part.Index (settled c base.Integer) (out-Candidate c).is_static ∷ [];
+  is_static = h.is_static && (out-Candidate c).is_static;
+  is = ap (λ x. meaning.indexed x c) h.is ∙ ap (λ u. meaning.element_denoted o.object h.parts u h.is_static c) (sym is);
+  typed = refl;
+  known = more_known h.parts (part.Index (settled c base.Integer) (out-Candidate c).is_static) h.known (known_index _ _ ∙ known);
+}
+
+element_begins : (o : ObjectName) (e : Option BaseType) (told : Told) (n : NameTold) (c : Candidate) (d : Denoted) → e ≡ typing.element_of o.base → Tells told c
+    → Took (denotes.Object o) n (Fine told) d
+    → Begins (typing.element_named o e told n) (meaning.indexed d c)
+unfolding typing.element_named typing.with_typing typing.with_denoted
+element_begins o (Some e) told n c d same tells took = λ names typed fits.
+    let ts = both_empty n.typing (asks base.Integer told) typed in
+    let t = took names ts.0 fits in
+    element_is o e told c d same (asked base.Integer told c tells t.0 ts.1) t.1
+element_begins o None told n c d same tells took = misfit_begins (denotes.Object (typing.part_of o None told.is_static)) n (meaning.indexed d c)
+
+-- ---- a function or an attribute of a type with its argument
+
+call_is : (f : Function) (t : BaseType) (c : Candidate) (d : Denoted) → d ≡ denoted.Function f
+    → meaning.called f (settled c base.StdUlogic) ≡ denoted.Value (value.Call f (settled c base.StdUlogic)) t false
+    → known_value (settled c base.StdUlogic) ≡ true → IsOne (t ∷ []) (meaning.indexed d c)
+unfolding meaning.indexed
+call_is f t c d same gives known = record {
+  type = t;
+  value = value.Call f (settled c base.StdUlogic);
+  is_static = false;
+  is = ap (λ x. meaning.indexed x c) same ∙ gives;
+  typed = refl;
+  known = known_call f (settled c base.StdUlogic) ∙ known;
+}
+
+edge_begins : (f : Function) (told : Told) (n : NameTold) (c : Candidate) (d : Denoted)
+    → meaning.called f (settled c base.StdUlogic) ≡ denoted.Value (value.Call f (settled c base.StdUlogic)) base.Boolean false
+    → Tells told c → Took (denotes.Function f) n (Fine told) d → Begins (typing.edge_of told n) (meaning.indexed d c)
+unfolding typing.edge_of typing.becomes_value typing.with_typing typing.with_names
+edge_begins f told n c d gives tells took = λ names typed fits.
+    let ns = both_empty n.names (typing.signal_wanted told) names in
+    let ts = both_empty n.typing (asks base.StdUlogic told) typed in
+    let t = took ns.0 ts.0 fits in
+    inr (call_is f base.Boolean c d t.1 gives (asked base.StdUlogic told c tells t.0 ts.1))
+
+called_begins : (f : Function) (told : Told) (n : NameTold) (c : Candidate) (d : Denoted) → Tells told c → Took (denotes.Function f) n (Fine told) d
+    → Begins (typing.called f told n) (meaning.indexed d c)
+unfolding typing.called typing.becomes_value typing.with_typing meaning.called
+called_begins function.RisingEdge told n c d tells took = edge_begins function.RisingEdge told n c d refl tells took
+called_begins function.FallingEdge told n c d tells took = edge_begins function.FallingEdge told n c d refl tells took
+called_begins function.ToX01 told n c d tells took = λ names typed fits.
+    let ts = both_empty n.typing (asks base.StdUlogic told) typed in
+    let t = took names ts.0 fits in
+    inr (call_is function.ToX01 base.StdUlogic c d t.1 refl (asked base.StdUlogic told c tells t.0 ts.1))
+called_begins function.Now told n c d tells took = wrong_begins n (meaning.indexed d c)
+
+of_type_begins : (a : TypeAttribute) (u : BaseType) (told : Told) (n : NameTold) (c : Candidate) (d : Denoted) → Tells told c → Took (denotes.TypeAttribute a u) n (Fine told) d
+    → Begins (typing.of_type a u told n) (meaning.indexed d c)
+unfolding typing.of_type typing.becomes_value typing.with_typing meaning.indexed meaning.of_type meant_by
+of_type_begins type_attribute.Pos u told n c d tells took = λ names typed fits.
+    let ts = both_empty n.typing (asks u told) typed in
+    let t = took names ts.0 fits in
+    inr (record {
+      type = base.Integer;
+      value = value.Position u (settled c u);
+      is_static = false;
+      is = ap (λ x. meaning.indexed x c) t.1;
+      typed = refl;
+      known = known_position u (settled c u) ∙ asked u told c tells t.0 ts.1;
+    })
+of_type_begins type_attribute.Val u told n c d tells took = λ names typed fits.
+    let ts = both_empty n.typing (asks base.Integer told) typed in
+    let t = took names ts.0 fits in
+    inr (record {
+      type = u;
+      value = value.At u (settled c base.Integer);
+      is_static = false;
+      is = ap (λ x. meaning.indexed x c) t.1;
+      typed = refl;
+      known = known_at u (settled c base.Integer) ∙ asked base.Integer told c tells t.0 ts.1;
+    })
+
+-- ---- ( expr )
+
+indexed_as_begins : (x : Denotes) (told : Told) (n : NameTold) (c : Candidate) (d : Denoted) → Tells told c → Took x n (Fine told) d → Begins (typing.indexed_as x told n) (meaning.indexed d c)
+unfolding typing.indexed_as
+indexed_as_begins denotes.Unknown told n c d tells took = λ names typed fits. absurd (took names typed fits).1
+indexed_as_begins (denotes.Object o) told n c d tells took = element_begins o (typing.element_of o.base) told n c d refl tells took
+indexed_as_begins denotes.Value told n c d tells took = misfit_begins denotes.Value n (meaning.indexed d c)
+indexed_as_begins (denotes.Function f) told n c d tells took = called_begins f told n c d tells took
+indexed_as_begins (denotes.TypeAttribute a t) told n c d tells took = of_type_begins a t told n c d tells took
+indexed_as_begins _ told n c d tells took = wrong_begins n (meaning.indexed d c)
+
+indexed_begins : (n : NameTold) (told : Told) (c : Candidate) (d : Denoted) → Tells told c → Begins n d → Begins (typing.indexed n told) (meaning.indexed d c)
+unfolding typing.indexed
+indexed_begins n told c d tells h = indexed_as_begins n.denotes told (typing.takes n told) c d tells (took_one n told d h)
+
+-- ---- ( simple dir simple )
+
+slice_is : (o : ObjectName) (s are_static : Bool) (p : PartValue) (d : Denoted) → true ≡ is_array_type o.base → known_part p ≡ true → IsObject o d
+    → IsObject (typing.part_of o o.base s) (meaning.sliced d are_static p)
+unfolding meaning.sliced meaning.slice_denoted typing.part_of is_array_type
+slice_is o s are_static p d array known h = let is : true ≡ is_array h.base = rw h.typed at array in record {
+  base = h.base;
+  parts = h.parts ++ p ∷ [];
+  is_static = h.is_static && are_static;
+  is = ap (λ x. meaning.sliced x are_static p) h.is ∙ ap (λ b. meaning.slice_denoted b o.object h.parts h.base (h.is_static && are_static) p) (sym is);
+  typed = h.typed;
+  known = more_known h.parts p h.known known;
+}
+
+slice_known : (left : Candidate) (direction : Direction) (right : Candidate) → known_value (settled left base.Integer) ≡ true → known_value (settled right base.Integer) ≡ true
+    → known_part (meaning.slice_part left direction right) ≡ true
+unfolding meaning.slice_part
+slice_known left direction right h k = known_slice (settled left base.Integer) direction (settled right base.Integer) (meaning.both_static left right) ∙ and_from _ _ h k
+
+slice_begins : (o : ObjectName) (b : Bool) (low high : Told) (n : NameTold) (left : Candidate) (direction : Direction) (right : Candidate) (d : Denoted) → b ≡ is_array_type o.base
+    → Tells low left → Tells high right → Took (denotes.Object o) n (BothFine low high) d
+    → Begins (typing.slice_named o b low high n) (meaning.sliced d (meaning.both_static left right) (meaning.slice_part left direction right))
+unfolding typing.slice_named typing.with_typing typing.with_denoted
+slice_begins o true low high n left direction right d array from to took = λ names typed fits.
+    let ts = both_empty n.typing (asks base.Integer low ++ asks base.Integer high) typed in
+    let us = both_empty (asks base.Integer low) (asks base.Integer high) ts.1 in
+    let t = took names ts.0 fits in
+    slice_is o (low.is_static && high.is_static) (meaning.both_static left right) (meaning.slice_part left direction right) d array
+    (slice_known left direction right (asked base.Integer low left from t.0.0 us.0) (asked base.Integer high right to t.0.1 us.1)) t.1
+slice_begins o false low high n left direction right d array from to took =
+    misfit_begins (denotes.Object (typing.part_of o None (low.is_static && high.is_static))) n (meaning.sliced d (meaning.both_static left right) (meaning.slice_part left direction right))
+
+sliced_as_begins : (x : Denotes) (low high : Told) (n : NameTold) (left : Candidate) (direction : Direction) (right : Candidate) (d : Denoted)
+    → Tells low left → Tells high right → Took x n (BothFine low high) d
+    → Begins (typing.sliced_as x low high n) (meaning.sliced d (meaning.both_static left right) (meaning.slice_part left direction right))
+unfolding typing.sliced_as
+sliced_as_begins denotes.Unknown low high n left direction right d from to took = λ names typed fits. absurd (took names typed fits).1
+sliced_as_begins (denotes.Object o) low high n left direction right d from to took = slice_begins o (is_array_type o.base) low high n left direction right d refl from to took
+sliced_as_begins denotes.Value low high n left direction right d from to took =
+    misfit_begins denotes.Value n (meaning.sliced d (meaning.both_static left right) (meaning.slice_part left direction right))
+sliced_as_begins denotes.Now low high n left direction right d from to took =
+    misfit_begins denotes.Value n (meaning.sliced d (meaning.both_static left right) (meaning.slice_part left direction right))
+sliced_as_begins _ low high n left direction right d from to took = wrong_begins n (meaning.sliced d (meaning.both_static left right) (meaning.slice_part left direction right))
+
+sliced_begins : (n : NameTold) (low high : Told) (left : Candidate) (direction : Direction) (right : Candidate) (d : Denoted) → Tells low left → Tells high right → Begins n d
+    → Begins (typing.sliced n low high) (meaning.sliced d (meaning.both_static left right) (meaning.slice_part left direction right))
+unfolding typing.sliced
+sliced_begins n low high left direction right d from to h =
+    sliced_as_begins n.denotes low high (typing.takes (typing.takes n low) high) left direction right d from to (took_two n low high d h)
+
+-- ---- ' id and ' range
+
+attribute_is : (a : ObjectAttribute) (o : ObjectName) (d : Denoted) (types : List BaseType) (h : IsObject o d) → types ≡ attribute_type a h.base ∷ []
+    → IsOne types (meaning.attributed d (Some (name.Object a)))
+unfolding meaning.attributed meaning.object_attributed
+attribute_is a o d types h typed = record {
+  type = attribute_type a h.base;
+  value = value.Attribute (meaning.reference o.object h.parts h.base) a;
+  is_static = is_bound a;
+  is = ap (λ x. meaning.attributed x (Some (name.Object a))) h.is;
+  typed = typed;
+  known = known_attribute (meaning.reference o.object h.parts h.base) a ∙ (known_parts o.object h.parts h.base ∙ h.known);
+}
+
+-- where no rule is broken so far, this is denoted
+abbrev Was : Denotes → NameTold → Denoted → Type 0
+Was x n d = n.names ≡ [] → n.typing ≡ [] → n.is_misfit ≡ false → Means x n.types d
+
+change_begins : (a : ObjectAttribute) (o : ObjectName) (place : ℕ) (n : NameTold) (d : Denoted) → ((t : BaseType) → attribute_type a t ≡ base.Boolean) → Was (denotes.Object o) n d
+    → Begins (typing.change_of o place n) (meaning.attributed d (Some (name.Object a)))
+unfolding typing.change_of typing.becomes_value
+change_begins a o place n d gives was = or_no_such (is_signal o) (typing.becomes_value (base.Boolean ∷ []) n) place n (meaning.attributed d (Some (name.Object a)))
+    (λ names typed fits. let h = was names typed fits in inr (attribute_is a o d (base.Boolean ∷ []) h (ap (λ t. t ∷ []) (sym (gives h.base)))))
+
+last_begins : (o : ObjectName) (place : ℕ) (n : NameTold) (d : Denoted) → Was (denotes.Object o) n d
+    → Begins (typing.last_value_of o place n) (meaning.attributed d (Some (name.Object object_attribute.LastValue)))
+unfolding typing.last_value_of typing.becomes_value typing.option_types attribute_type
+last_begins o place n d was = or_no_such _ (typing.becomes_value (typing.option_types o.base) n) place n (meaning.attributed d (Some (name.Object object_attribute.LastValue)))
+    (λ names typed fits. let h = was names typed fits in inr (attribute_is object_attribute.LastValue o d (typing.option_types o.base) h (ap typing.option_types h.typed)))
+
+bound_begins : (a : ObjectAttribute) (o : ObjectName) (place : ℕ) (n : NameTold) (d : Denoted) → ((t : BaseType) → attribute_type a t ≡ base.Integer) → Was (denotes.Object o) n d
+    → Begins (if has_bounds o then typing.bound_of n else typing.has_no_such place n) (meaning.attributed d (Some (name.Object a)))
+unfolding typing.bound_of
+bound_begins a o place n d gives was = or_no_such (has_bounds o) (typing.bound_of n) place n (meaning.attributed d (Some (name.Object a)))
+    (λ names typed fits. let h = was names typed fits in inr (attribute_is a o d (base.Integer ∷ []) h (ap (λ t. t ∷ []) (sym (gives h.base)))))
+
+range_is : (o : ObjectName) (d : Denoted) → IsObject o d → IsRange (meaning.attributed d (Some name.Range))
+unfolding meaning.attributed meaning.object_attributed
+range_is o d h = record {
+  reference = meaning.reference o.object h.parts h.base;
+  is = ap (λ x. meaning.attributed x (Some name.Range)) h.is;
+  known = known_parts o.object h.parts h.base ∙ h.known;
+}
+
+range_begins : (o : ObjectName) (place : ℕ) (n : NameTold) (d : Denoted) → Was (denotes.Object o) n d
+    → Begins (if has_bounds o then typing.range_of n else typing.has_no_such place n) (meaning.attributed d (Some name.Range))
+unfolding typing.range_of
+range_begins o place n d was = or_no_such (has_bounds o) (typing.range_of n) place n (meaning.attributed d (Some name.Range))
+    (λ names typed fits. range_is o d (was names typed fits))
+
+object_begins : (a : AttributeName) (o : ObjectName) (place : ℕ) (n : NameTold) (d : Denoted) → Was (denotes.Object o) n d
+    → Begins (typing.object_attribute (ruled a) o place n) (meaning.attributed d (Some a))
+unfolding typing.object_attribute ruled attribute_type
+object_begins (name.Object object_attribute.Event) o place n d was = change_begins object_attribute.Event o place n d (λ t. refl) was
+object_begins (name.Object object_attribute.Active) o place n d was = change_begins object_attribute.Active o place n d (λ t. refl) was
+object_begins (name.Object object_attribute.LastValue) o place n d was = last_begins o place n d was
+object_begins (name.Object object_attribute.Left) o place n d was = bound_begins object_attribute.Left o place n d (λ t. refl) was
+object_begins (name.Object object_attribute.Right) o place n d was = bound_begins object_attribute.Right o place n d (λ t. refl) was
+object_begins (name.Object object_attribute.High) o place n d was = bound_begins object_attribute.High o place n d (λ t. refl) was
+object_begins (name.Object object_attribute.Low) o place n d was = bound_begins object_attribute.Low o place n d (λ t. refl) was
+object_begins (name.Object object_attribute.Length) o place n d was = bound_begins object_attribute.Length o place n d (λ t. refl) was
+object_begins name.Range o place n d was = range_begins o place n d was
+object_begins (name.Type meant_attribute.Pos) o place n d was = no_such_begins place n _
+object_begins (name.Type meant_attribute.Val) o place n d was = no_such_begins place n _
+
+type_begins : (a : AttributeName) (t : BaseType) (place : ℕ) (n : NameTold) (d : Denoted) → (n.names ≡ [] → n.typing ≡ [] → n.is_misfit ≡ false → d ≡ denoted.Subtype t)
+    → Begins (typing.type_attribute_of (ruled a) t place n) (meaning.attributed d (Some a))
+unfolding typing.type_attribute_of typing.with_argument typing.with_denoted ruled meant_by meaning.attributed meaning.type_attributed
+type_begins (name.Type meant_attribute.Pos) t place n d was = or_no_such (is_enumeration t) (typing.with_denoted (denotes.TypeAttribute type_attribute.Pos t) n) place n _
+    (λ names typed fits. ap (λ x. meaning.attributed x (Some (name.Type meant_attribute.Pos))) (was names typed fits))
+type_begins (name.Type meant_attribute.Val) t place n d was = or_no_such (is_enumeration t) (typing.with_denoted (denotes.TypeAttribute type_attribute.Val t) n) place n _
+    (λ names typed fits. ap (λ x. meaning.attributed x (Some (name.Type meant_attribute.Val))) (was names typed fits))
+type_begins name.Range t place n d was = no_such_begins place n _
+type_begins (name.Object object_attribute.Event) t place n d was = no_such_begins place n _
+type_begins (name.Object object_attribute.Active) t place n d was = no_such_begins place n _
+type_begins (name.Object object_attribute.LastValue) t place n d was = no_such_begins place n _
+type_begins (name.Object object_attribute.Left) t place n d was = no_such_begins place n _
+type_begins (name.Object object_attribute.Right) t place n d was = no_such_begins place n _
+type_begins (name.Object object_attribute.High) t place n d was = no_such_begins place n _
+type_begins (name.Object object_attribute.Low) t place n d was = no_such_begins place n _
+type_begins (name.Object object_attribute.Length) t place n d was = no_such_begins place n _
+
+attributed_as_begins : (x : Denotes) (a : Option AttributeName) (place : ℕ) (n : NameTold) (d : Denoted) → Was x n d
+    → Begins (typing.attributed_as x (ruled_option a) place n) (meaning.attributed d a)
+unfolding typing.attributed_as ruled_option
+attributed_as_begins denotes.Unknown (Some a) place n d was = λ names typed fits. absurd (was names typed fits)
+attributed_as_begins denotes.Unknown None place n d was = λ names typed fits. absurd (was names typed fits)
+attributed_as_begins (denotes.Object o) (Some a) place n d was = object_begins a o place n d was
+attributed_as_begins (denotes.Subtype mark) (Some a) place n d was = type_begins a mark.base place n d was
+attributed_as_begins _ (Some a) place n d was = no_such_begins place n _
+attributed_as_begins _ None place n d was = no_such_begins place n _
+
+attributed_begins : (text : List ℕ) (n : NameTold) (word : Token) (d : Denoted) → Begins n d → Begins (typing.attributed text n word) (meaning.attributed d (attribute_of text word))
+unfolding typing.attributed
+attributed_begins text n word d h = rw (attribute_same text word) (attributed_as_begins n.denotes (attribute_of text word) word.start n d h)
+
+-- ---- all that follows
+
+extended_begins : (text : List ℕ) (n : NameTold) (d : Denoted) (told : PartTold) (c : PartCandidate) → PartTells told c → Begins n d → Begins (typing.extended text n told) (meaning.extended text d c)
+unfolding typing.extended meaning.extended
+extended_begins text n d (part_told.Index told) (part_candidate.Index c) tells h = indexed_begins n told c d tells h
+extended_begins text n d (part_told.Slice low high) (part_candidate.Slice left direction right) tells h = sliced_begins n low high left direction right d tells.0 tells.1 h
+extended_begins text n d (part_told.Attribute word) (part_candidate.Attribute other) same h = rw (sym same) (attributed_begins text n word d h)
+extended_begins text n d _ _ tells h = absurd tells
+
+pub parts_begin : (text : List ℕ) (n : NameTold) (d : Denoted) (tolds : List PartTold) (parts : List PartCandidate) → PartsTell tolds parts → Begins n d
+    → Begins (typing.extended_by text n tolds) (meaning.extended_by text d parts)
+unfolding typing.extended_by meaning.extended_by
+parts_begin text n d [] [] tell h = h
+parts_begin text n d (told ∷ tolds) (c ∷ parts) tell h = parts_begin text (typing.extended text n told) (meaning.extended text d c) tolds parts tell.1 (extended_begins text n d told c tell.0 h)
+parts_begin text n d _ _ tell h = absurd tell

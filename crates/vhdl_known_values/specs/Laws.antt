@@ -1,0 +1,17 @@
+-- What holds of all expressions, names, choices and ranges: where no rule is broken in them they mean something (IEEE Std
+-- 1076-2008, clauses 8, 9 and 12.5).
+use Rattle.std.specs.Prelude.{List, true, ℕ, ◌≡◌}
+use Rattle.vhdl_known_values.specs.Known.{known_value}
+use Rattle.vhdl_known_values.specs.Meanings.{HasMeanings, IsObject}
+use Rattle.vhdl_meaning.specs.Names.{target_of}
+use Rattle.vhdl_meaning.specs.declared.candidates.Denoted.{Denoted}
+use Rattle.vhdl_tokens.specs.declared.token.Token.{Token}
+use Rattle.vhdl_types.specs.declared.entry.Entry.{Entry}
+use Rattle.vhdl_typing.specs.declared.told.ObjectName.{ObjectName}
+
+abbrev pub EverythingHasMeanings : Type 0
+EverythingHasMeanings = (text : List ℕ) (look : Token → List Entry) → HasMeanings text look
+
+-- what is named as a target, or where a signal is named
+abbrev pub TargetsAreKnown : Type 0
+TargetsAreKnown = (o : ObjectName) (d : Denoted) → IsObject o d → known_value (target_of d) ≡ true

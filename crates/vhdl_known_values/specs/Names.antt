@@ -1,0 +1,105 @@
+-- What a name tells and what it denotes: where no rule is broken in it, the two agree (IEEE Std 1076-2008, clauses 8 and 12).
+use Rattle.std.specs.Prelude.{Bool, List, None, Option, Some, [], false, true, ◌≡◌, ◌⊎◌, ◌∷◌}
+use Rattle.vhdl_meaning.specs.declared.candidates.AttributeName.{AttributeName}
+use Rattle.vhdl_meaning.specs.declared.candidates.Denoted.{Denoted}
+use Rattle.vhdl_meaning.specs.declared.candidates.PartCandidate.{PartCandidate}
+use Rattle.vhdl_meaning.specs.declared.candidates.TypeAttribute as meant
+use Rattle.vhdl_types.specs.declared.base_type.BaseType.{BaseType}
+use Rattle.vhdl_types.specs.declared.entry.Entry.{Entry}
+use Rattle.vhdl_typing.specs.Names.{literal_types}
+use Rattle.vhdl_typing.specs.declared.told.Attribute.{Attribute}
+use Rattle.vhdl_typing.specs.declared.told.Denotes.{Denotes}
+use Rattle.vhdl_typing.specs.declared.told.NameTold.{NameTold}
+use Rattle.vhdl_typing.specs.declared.told.PartTold.{PartTold}
+use Rattle.vhdl_typing.specs.declared.told.TypeAttribute.{TypeAttribute}
+use Rattle.vhdl_units.specs.declared.values.Reference.{Reference}
+use Rattle.vhdl_units.specs.declared.values.Value.{Value}
+use Rattle.vhdl_known_values.specs.Known.{known_reference, known_value}
+use Rattle.vhdl_known_values.specs.Meanings.{IsObject}
+use Rattle.vhdl_known_values.specs.Tells.{Tells}
+use Rattle.vhdl_meaning.specs.declared.candidates.AttributeName.TheVariants as name
+use Rattle.vhdl_types.specs.declared.base_type.BaseType.TheVariants as base
+use Rattle.vhdl_meaning.specs.declared.candidates.Denoted.TheVariants as denoted
+use Rattle.vhdl_typing.specs.declared.told.Denotes.TheVariants as denotes
+use Rattle.vhdl_meaning.specs.declared.candidates.PartCandidate.TheVariants as part
+use Rattle.vhdl_typing.specs.declared.told.PartTold.TheVariants as part_told
+use Rattle.vhdl_typing.specs.declared.told.Attribute.TheVariants as attribute
+use Rattle.vhdl_typing.specs.declared.told.TypeAttribute.TheVariants as type_attribute
+use Rattle.vhdl_meaning.specs.declared.candidates.TypeAttribute.TheVariants as meant_attribute
+use Rattle.vhdl_units.specs.declared.values.ObjectAttribute.TheVariants as object_attribute
+use Rattle.vhdl_units.specs.declared.values.Value.TheVariants as value
+
+-- ---- attributes
+
+unfoldable pub meant_by : TypeAttribute → meant.TypeAttribute
+meant_by type_attribute.Pos = meant_attribute.Pos
+meant_by type_attribute.Val = meant_attribute.Val
+
+-- how the rules see an attribute
+unfoldable pub ruled : AttributeName → Attribute
+ruled (name.Object object_attribute.Event) = attribute.Event
+ruled (name.Object object_attribute.Active) = attribute.Active
+ruled (name.Object object_attribute.LastValue) = attribute.LastValue
+ruled (name.Object _) = attribute.Bound
+ruled name.Range = attribute.Range
+ruled (name.Type meant_attribute.Pos) = attribute.Pos
+ruled (name.Type meant_attribute.Val) = attribute.Val
+
+unfoldable pub ruled_option : Option AttributeName → Option Attribute
+ruled_option (Some a) = Some (ruled a)
+ruled_option None = None
+
+-- ---- what is denoted
+
+-- enumeration literals
+pub record IsLiterals (types : List BaseType) (d : Denoted) : Type 0 where
+  pub entries : List Entry
+  pub is : d ≡ denoted.Literals entries
+  pub typed : types ≡ literal_types entries
+
+-- a value of one type
+pub record IsOne (types : List BaseType) (d : Denoted) : Type 0 where
+  pub type : BaseType
+  pub value : Value
+  pub is_static : Bool
+  pub is : d ≡ denoted.Value value type is_static
+  pub typed : types ≡ type ∷ []
+  pub known : known_value value ≡ true
+
+-- the range of an array
+pub record IsRange (d : Denoted) : Type 0 where
+  pub reference : Reference
+  pub is : d ≡ denoted.Range reference
+  pub known : known_reference reference ≡ true
+
+abbrev pub Means : Denotes → List BaseType → Denoted → Type 0
+Means denotes.Unknown types d = ⊥
+Means (denotes.Object o) types d = IsObject o d
+Means denotes.Value types d = IsLiterals types d ⊎ IsOne types d
+Means denotes.Now types d = d ≡ denoted.Value value.Now base.Time false
+Means (denotes.Subtype mark) types d = d ≡ denoted.Subtype mark.base
+Means (denotes.Function f) types d = d ≡ denoted.Function f
+Means (denotes.TypeAttribute a t) types d = d ≡ denoted.TypeAttribute (meant_by a) t
+Means denotes.Range types d = IsRange d
+Means _ types d = Unit {0}
+
+-- a whole name
+abbrev pub NameMeans : NameTold → Denoted → Type 0
+NameMeans n d = n.names ≡ [] → n.typing ≡ [] → Means n.denotes n.types d
+
+-- a name to which more can come: an index or slice on a scalar is tested of the whole name
+abbrev pub Begins : NameTold → Denoted → Type 0
+Begins n d = n.names ≡ [] → n.typing ≡ [] → n.is_misfit ≡ false → Means n.denotes n.types d
+
+-- ---- what follows an identifier
+
+abbrev pub PartTells : PartTold → PartCandidate → Type 0
+PartTells (part_told.Index told) (part.Index c) = Tells told c
+PartTells (part_told.Slice low high) (part.Slice left direction right) = Tells low left × Tells high right
+PartTells (part_told.Attribute word) (part.Attribute other) = word ≡ other
+PartTells _ _ = ⊥
+
+abbrev pub PartsTell : List PartTold → List PartCandidate → Type 0
+PartsTell [] [] = Unit {0}
+PartsTell (told ∷ tolds) (c ∷ parts) = PartTells told c × PartsTell tolds parts
+PartsTell _ _ = ⊥

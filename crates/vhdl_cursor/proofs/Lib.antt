@@ -1,4 +1,7 @@
+pub mod Apart
 pub mod Complete
+pub mod FrontLists
+pub mod Fronts
 pub mod Local
 pub mod Loops
 pub mod NextToken

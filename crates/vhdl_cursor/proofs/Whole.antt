@@ -1,9 +1,11 @@
 -- A reader of a whole list of tokens: what it answers, and where it stops.
-use Rattle.std.proofs.Common.{◌≡◌, ℕ, suc, ◌+◌, ◌-◌, ◌<◌, ◌≤◌, List, [], ◌∷◌, ◌++◌, length, take, refl, ap, ◌∙◌, subst, arith}
+use Rattle.std.proofs.Common.{◌≡◌, ℕ, suc, ◌+◌, ◌-◌, ◌<◌, ◌≤◌, List, [], ◌∷◌, ◌++◌, length, take, refl, sym, ap, ◌∙◌, subst, arith}
+use Rattle.std.proofs.lemmas.List.{length-append, take_at}
 use Rattle.vhdl_tokens.specs.declared.token.Token.{Token}
 use Rattle.vhdl_cursor.specs.Steps.{Answer, Found, Stopped, Spent, Parser, and_then, finish, whole}
 use Rattle.vhdl_cursor.proofs.Local.{Law, Carry, Carries, IsFine, bind_law, law_of, LawAt}
 use Rattle.vhdl_cursor.proofs.Sound.{Sound, reads}
+use Rattle.vhdl_cursor.proofs.Fronts.{Front, Viable, Some_of, Leads, none_before, ◌then◌}
 use Rattle.vhdl_cursor.proofs.Complete.{Reaches, bind_up, is_up, stops_not, one_answer, reaches_is}
 
 -- nothing may follow
@@ -90,3 +92,37 @@ module _ {A : Type 0} (n : ℕ) (p : Parser A) (R : List Token → A → List To
   -- what is whole is found
   pub whole_is : (ts : List Token) (a : A) → length ts < n → R ts a [] → whole p ts ≡ Found a []
   whole_is ts a less h = reaches_is whole_law less (whole_up ts a h)
+
+-- ---- what whole lists begin with
+
+-- some whole list begins with the tokens before a place
+pub record BeginsBefore {A : Type 0} (R : List Token → A → List Token → Type 0) (tokens : List Token) (place : ℕ) : Type 0 where
+  pub others : List Token
+  pub tree : A
+  pub same : take place others ≡ take place tokens
+  pub stands : R others tree []
+
+-- tokens with the same ones before them have these in common
+front_same : (g : Front) (us vs : List Token) → take (length (g.put us) - length us) (g.put vs) ≡ take (length (g.put us) - length us) (g.put us)
+front_same g us vs = let many : length (g.put us) ≡ length g.tokens + length us = ap length (g.puts us) ∙ length-append g.tokens us in let place : length g.tokens ≡ length (g.put us) - length us = omega arith in
+    ap (take (length (g.put us) - length us)) (g.puts vs) ∙ take_at g.tokens vs _ place ∙ sym (ap (take (length (g.put us) - length us)) (g.puts us) ∙ take_at g.tokens us _ place)
+
+begun_by : {A : Type 0} (R : List Token → A → List Token → Type 0) (ts us : List Token) (g : Front) (vs : List Token) → ts ≡ g.put us → Some_of R (g.put vs) [] → BeginsBefore R ts (length ts - length us)
+begun_by R ts us g vs is r = record {
+  others = g.put vs;
+  tree = r.0;
+  same = subst (λ zs. take (length zs - length us) (g.put vs) ≡ take (length zs - length us) zs) (sym is) (front_same g us vs);
+  stands = r.1;
+}
+
+module _ {A : Type 0} (p : Parser A) (R : List Token → A → List Token → Type 0) (viable : Viable p R) where
+  begun_at : (ts us : List Token) (answer : Answer A) → Leads (λ a. Some_of R) none_before ts answer → and_then answer finish ≡ Stopped us → BeginsBefore R ts (length ts - length us)
+  begun_at ts us (Found a []) h e = absurd cc
+  begun_at ts us (Found a (t ∷ rest)) h e = let same : t ∷ rest ≡ us = cc in begun_by R ts us h.0 [] (subst (λ zs. ts ≡ h.0.put zs) same h.1) (h.2 [])
+  begun_at ts us (Stopped vs) h e = let same : vs ≡ us = cc in begun_by R ts us h.0 (h.2.0.put []) (subst (λ zs. ts ≡ h.0.put zs) same h.1) (h.2.2 [])
+  begun_at ts us Spent h e = absurd cc
+
+  -- where the reader of whole lists stops, one begins with the tokens before
+  pub whole_begins : (ts us : List Token) → whole p ts ≡ Stopped us → BeginsBefore R ts (length ts - length us)
+  unfolding whole
+  whole_begins ts us e = begun_at ts us (p ts) (viable.leads.holds none_before ts tt (λ vs. refl)) e

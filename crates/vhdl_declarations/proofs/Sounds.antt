@@ -24,10 +24,10 @@ use Rattle.vhdl_declarations.specs.Reading as spec
 use Rattle.vhdl_declarations.specs.Reading.{identifiers, default, range_constraint, index_constraint, subtype_after, subtype, typed, literal, literals, type_declaration, subtype_declaration, given, constant_declaration, object_declaration, attributed, attribute_specification, constant, subtype_or_constant, type_or_constant, attribute_or_type, declaration, process_declaration, declarations, process_declarations, generic_subtype, generic, generic_list, generics, mode, port_mode, port, port_list, ports, entity_name, entity_end, entity}
 
 -- an enumeration literal, by its kind
-identifier_literal : (ts us : List Token) (t : Token) → IsToken kind.Identifier ts t us → IsEnumerationLiteral ts t us
+pub identifier_literal : (ts us : List Token) (t : Token) → IsToken kind.Identifier ts t us → IsEnumerationLiteral ts t us
 identifier_literal ts us t IsToken.single = IsEnumerationLiteral.identifier
 
-character_literal : (ts us : List Token) (t : Token) → IsToken kind.Char ts t us → IsEnumerationLiteral ts t us
+pub character_literal : (ts us : List Token) (t : Token) → IsToken kind.Char ts t us → IsEnumerationLiteral ts t us
 character_literal ts us t IsToken.single = IsEnumerationLiteral.character
 
 module _ (bound : ℕ) where

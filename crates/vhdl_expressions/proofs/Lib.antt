@@ -3,12 +3,16 @@ pub mod Bounded
 mod Completes
 mod Elements
 pub mod Follow
+mod Fronts
 mod Laws
 mod Levels
 mod Lone
-mod NamedBounds
+pub mod NamedBounds
+mod NamedFronts
 mod Names
+mod NamesApart
 pub mod Reached
 pub mod Read
 mod Sounds
+mod Spelled
 mod Turns

@@ -19,17 +19,17 @@ use Rattle.vhdl_expressions.specs.Reading.{Layer, simple_at, simple_within, name
 use Rattle.vhdl_expressions.proofs.Sounds as sounds
 
 -- the name that an expression is, by one level of it
-abbrev name_in : Layer → Option Name
+abbrev pub name_in : Layer → Option Name
 name_in (Expr-F.Name n) = Some n
 name_in _ = None
 
-abbrev as_name : Expr → Option Name
+abbrev pub as_name : Expr → Option Name
 as_name e = name_in (out-Expr e)
 
 name_opens : (m : Name) → as_name (expr.Name m) ≡ Some m
 name_opens m = first_of (search (rules, the_lemmas), grind (arith, the_lemmas))
 
-chain_opens : (place : ℕ) (a : Expr) (links : List Link) → as_name (expr.Chain place a links) ≡ None
+pub chain_opens : (place : ℕ) (a : Expr) (links : List Link) → as_name (expr.Chain place a links) ≡ None
 chain_opens place a links = first_of (search (rules, the_lemmas), grind (arith, the_lemmas))
 
 unary_opens : (place : ℕ) (o : Unary) (a : Expr) → as_name (expr.Unary place o a) ≡ None
@@ -38,7 +38,7 @@ unary_opens place o a = first_of (search (rules, the_lemmas), grind (arith, the_
 number_opens : (t : Token) (unit : Option Token) → as_name (expr.Number t unit) ≡ None
 number_opens t unit = first_of (search (rules, the_lemmas), grind (arith, the_lemmas))
 
-literal_opens : (t : Token) → as_name (expr.Literal t) ≡ None
+pub literal_opens : (t : Token) → as_name (expr.Literal t) ≡ None
 literal_opens t = first_of (search (rules, the_lemmas), grind (arith, the_lemmas))
 
 module _ (S : List Token → Expr → List Token → Type 0) where
@@ -65,7 +65,7 @@ module _ (S : List Token → Expr → List Token → Type 0) where
   simple_name ts a us n (IsSimple.terms {a = b} r Operations.none) is begins = signed_name ts b us n r is begins
   simple_name ts a us n (IsSimple.terms {a = b} r (Operations.more {op = o} {a = d} {all = links} p s rest)) is begins = let e = chain_opens (place_of ts) b (link_of o d ∷ links) in absurd cc
 
-within_name : (depth : ℕ) (ts : List Token) (a : Expr) (us : List Token) (n : Name) → SimpleWithin depth ts a us → as_name a ≡ Some n → spec.begins_name (kind_of ts) ≡ true → NameOf ts n us
+pub within_name : (depth : ℕ) (ts : List Token) (a : Expr) (us : List Token) (n : Name) → SimpleWithin depth ts a us → as_name a ≡ Some n → spec.begins_name (kind_of ts) ≡ true → NameOf ts n us
 within_name zero ts a us n h is begins = absurd h
 within_name (suc depth) ts a us n h is begins = (depth, simple_name (SimpleWithin depth) ts a us n h is begins)
 

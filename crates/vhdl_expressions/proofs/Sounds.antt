@@ -1,23 +1,18 @@
 -- What a reader of expressions finds is so by the grammar.
-use Rattle.std.proofs.Common.{◌≡◌, ℕ, zero, suc, Bool, true, false, List, [], ◌∷◌, Option, Some, refl, subst}
-use denote.Enum.Bare.{true_same}
-use Rattle.vhdl_tree.specs.contracts.expressions.Operator.{the_type}
+use Rattle.std.proofs.Common.{◌≡◌, ℕ, zero, suc, Bool, true, false, List, [], ◌∷◌, Some, refl, subst}
 use Rattle.vhdl_tokens.specs.declared.token.Kind.{Kind}
-use Rattle.vhdl_tokens.specs.declared.token.Kind.TheVariants as kind
 use Rattle.vhdl_tokens.specs.declared.token.Token.{Token}
 use Rattle.vhdl_tokens.specs.declared.token.Delimiter.TheVariants as delimiter
-use Rattle.vhdl_tokens.specs.declared.reserved.Reserved.TheVariants as reserved
 use Rattle.vhdl_tree.specs.declared.expressions.Operator.{Operator}
 use Rattle.vhdl_tree.specs.declared.expressions.Operator.TheVariants as op
 use Rattle.vhdl_tree.specs.declared.expressions.Expr.{Expr}
 use Rattle.vhdl_tree.specs.declared.expressions.Expr.TheVariants as expr
 use Rattle.vhdl_tree.specs.declared.expressions.Part.{Part}
-use Rattle.vhdl_tree.specs.declared.expressions.Part.TheVariants as a_part
 use Rattle.vhdl_tree.specs.declared.expressions.Choice.{Choice}
 use Rattle.vhdl_tree.specs.declared.expressions.Choice.TheVariants as a_choice
 use Rattle.vhdl_tree.specs.Words.{Span, tok, id, mark, kind_of, place_of}
-use Rattle.vhdl_tree.specs.Lists.{Preceded, Separated, Operations, IsOptional}
-use Rattle.vhdl_tree.specs.Expressions.{chaining, standing_once, again, same_operator, bracketed, relational, sign, prefix, direction_of, link_of, IsRelation, IsExpression, IsChoice, IsChoices, IsItem, IsPart, IsName, IsPrimary, IsFactor, IsTerm, IsSigned, IsSimple, SimpleWithin}
+use Rattle.vhdl_tree.specs.Lists.{Preceded, Separated, Operations}
+use Rattle.vhdl_tree.specs.Expressions.{chaining, standing_once, again, bracketed, relational, sign, prefix, direction_of, link_of, IsRelation, IsExpression, IsChoice, IsChoices, IsItem, IsPart, IsName, IsPrimary, IsFactor, IsTerm, IsSigned, IsSimple, SimpleWithin}
 use Rattle.vhdl_cursor.specs.Steps.{Parser}
 use Rattle.vhdl_cursor.proofs.Sound.{Triple, Sound, start_t, call_t, bind_t, pure_t, stop_t, spent_sound, choose_t, on_t, here_start, word_t, token_t, before_t, placed, any_t, look_t, optional_sound, sound_as}
 use Rattle.vhdl_cursor.proofs.NextToken.{span_of}
@@ -25,12 +20,8 @@ use Rattle.vhdl_cursor.proofs.SoundLists.{many_sound, operations_sound, operatio
 use Rattle.vhdl_expressions.specs.declared.tables.Start.{Start}
 use Rattle.vhdl_expressions.specs.declared.tables.Start.TheVariants as a_start
 use Rattle.vhdl_expressions.specs.Reading as spec
+use Rattle.vhdl_expressions.proofs.Spelled.{again_self, others_choice, range_part, number_primary, literal_primary}
 use Rattle.vhdl_expressions.specs.Reading.{relation_after, relation, relations, chain, once_after, expression_after, expression_from, expression, choice_after, choice, choices_from, choices, item_from, positional, item_by, item_after, item, part_after, argument, attribute, bracketed_part, part, name_from, name, bracket, number, primary, factor_after, factor, term, signed, level, simple_at}
-
--- an operator that may stand in a chain is itself again
-again_self : (k : Kind) (o : Operator) → chaining (Some k) ≡ Some o → again o (Some k) ≡ Some o
-unfolding same_operator
-again_self k o is = rw is (rw (true_same the_type o o refl) refl)
 
 -- ---- over a reader of simple expressions one bracket further in
 
@@ -73,16 +64,12 @@ module _ (turns : ℕ) (simple : Parser Expr) (S : List Token → Expr → List 
 
   -- ---- choices and aggregates
 
-  others_choice : (ts : List Token) (k : Kind) (x : Span) (us : List Token) → tok k x ∷ us ≡ ts → spec.is_others (Some k) ≡ true → IsChoice S ts (a_choice.Others (tok k x)) us
-  others_choice ts (kind.Word reserved.Others) x us e h = placed (IsChoice S) e IsChoice.others
-  others_choice ts _ x us e h = absurd cc
-
   choice_after_t : (ts : List Token) (left : Expr) → Triple (S ts left) (choice_after turns simple left) (IsChoice S ts)
   unfolding choice_after
   choice_after_t ts left = choose_t direction_of refl (λ d. bind_t (call_t inner) (λ right. pure_t (λ us h. IsChoice.range h.1.2 h.1.3 h.2))) (pure_t (λ us h. IsChoice.value h))
 
   choice_by_t : (ts : List Token) (b : Bool) → Triple (λ us. (us ≡ ts) × (spec.is_others (kind_of us) ≡ b)) (spec.choice_by turns simple b) (IsChoice S ts)
-  choice_by_t ts true = bind_t any_t (λ t. pure_t (λ us h. others_choice ts t.kind (span_of t) us h.0 h.1))
+  choice_by_t ts true = bind_t any_t (λ t. pure_t (λ us h. others_choice S ts t.kind (span_of t) us h.0 h.1))
   choice_by_t ts false = bind_t (before_t (λ us h. h.0) (start_t inner)) (λ left. choice_after_t ts left)
 
   choice_sound : Sound (choice turns simple) (IsChoice S)
@@ -119,7 +106,7 @@ module _ (turns : ℕ) (simple : Parser Expr) (S : List Token → Expr → List 
   item_after_t ts left = choose_t direction_of refl (λ d. bind_t (call_t inner) (λ right. before_t (λ us h. IsChoice.range h.1.2 h.1.3 h.2) (item_from_t ts (a_choice.Range left d right)))) (item_by_t ts left)
 
   item_start_t : (ts : List Token) (b : Bool) → Triple (λ us. (us ≡ ts) × (spec.is_others (kind_of us) ≡ b)) (spec.item_start turns simple b) (IsItem S ts)
-  item_start_t ts true = bind_t any_t (λ t. before_t (λ us h. others_choice ts t.kind (span_of t) us h.0 h.1) (item_from_t ts (a_choice.Others t)))
+  item_start_t ts true = bind_t any_t (λ t. before_t (λ us h. others_choice S ts t.kind (span_of t) us h.0 h.1) (item_from_t ts (a_choice.Others t)))
   item_start_t ts false = before_t (λ us h. h.0) (here_start (spec.item_at turns simple) (bind_t (start_t inner) (λ left. item_after_t ts left)))
 
   item_sound : Sound (item turns simple) (IsItem S)
@@ -145,12 +132,8 @@ module _ (turns : ℕ) (simple : Parser Expr) (S : List Token → Expr → List 
   unfolding bracketed_part
   bracketed_part_t ts = bind_t (call_t argument_sound) (λ p. bind_t (word_t _) (λ _. pure_t (λ us h. placed (IsPart S) h.1.1.1 (h.1.2 h.1.1.0 h.0 us refl))))
 
-  range_part : (ts : List Token) (k : Kind) (x y : Span) (us : List Token) → mark delimiter.Tick x ∷ tok k y ∷ us ≡ ts → spec.is_range_word (Some k) ≡ true → IsPart S ts (a_part.Attribute (tok k y)) us
-  range_part ts (kind.Word reserved.Range) x y us e h = placed (IsPart S) e IsPart.range
-  range_part ts _ x y us e h = absurd cc
-
   attribute_by_t : (ts : List Token) (b : Bool) → Triple (λ us. ((x : Span) × (mark delimiter.Tick x ∷ us ≡ ts)) × (spec.is_range_word (kind_of us) ≡ b)) (spec.attribute_by turns simple b) (IsPart S ts)
-  attribute_by_t ts true = bind_t any_t (λ t. pure_t (λ us h. range_part ts t.kind h.0.0 (span_of t) us h.0.1 h.1))
+  attribute_by_t ts true = bind_t any_t (λ t. pure_t (λ us h. range_part S ts t.kind h.0.0 (span_of t) us h.0.1 h.1))
   attribute_by_t ts false = token_t _ _ (λ y. pure_t (λ us h. placed (IsPart S) h.0.1 IsPart.attribute))
 
   attribute_t : (ts : List Token) → Triple (λ us. (x : Span) × (mark delimiter.Tick x ∷ us ≡ ts)) (attribute turns simple) (IsPart S ts)
@@ -179,29 +162,14 @@ module _ (turns : ℕ) (simple : Parser Expr) (S : List Token → Expr → List 
         pure_t (λ us h. subst (λ zs. IsPrimary S zs (bracketed (place_of zs) all) us) h.1.1.1 (IsPrimary.bracket h.1.2)))))));
   }
 
-  number_primary : (ts vs us : List Token) (k : Kind) (x : Span) (unit : Option Token) → tok k x ∷ vs ≡ ts → spec.start_of (Some k) ≡ a_start.Numbered → IsOptional kind.Identifier vs unit us
-      → IsPrimary S ts (expr.Number (tok k x) unit) us
-  number_primary ts vs us kind.Int x unit e h r = placed (IsPrimary S) e (IsPrimary.number r)
-  number_primary ts vs us (kind.Delimiter delimiter.LeftParen) x unit e h r = absurd cc
-  number_primary ts vs us (kind.Delimiter _) x unit e h r = absurd cc
-  number_primary ts vs us _ x unit e h r = absurd cc
-
   number_t : (ts : List Token) → Triple (λ us. (us ≡ ts) × (spec.start_of (kind_of us) ≡ a_start.Numbered)) (number turns simple) (IsPrimary S ts)
   unfolding number
-  number_t ts = bind_t any_t (λ t. bind_t (call_t optional_sound) (λ unit. pure_t (λ us h. number_primary ts h.0 us t.kind (span_of t) unit h.1.0 h.1.1 h.2)))
-
-  literal_primary : (ts us : List Token) (k : Kind) (x : Span) → tok k x ∷ us ≡ ts → spec.start_of (Some k) ≡ a_start.Spelled → IsPrimary S ts (expr.Literal (tok k x)) us
-  literal_primary ts us kind.Char x e h = placed (IsPrimary S) e (IsPrimary.literal refl)
-  literal_primary ts us kind.Text x e h = placed (IsPrimary S) e (IsPrimary.literal refl)
-  literal_primary ts us kind.Bits x e h = placed (IsPrimary S) e (IsPrimary.literal refl)
-  literal_primary ts us (kind.Delimiter delimiter.LeftParen) x e h = absurd cc
-  literal_primary ts us (kind.Delimiter _) x e h = absurd cc
-  literal_primary ts us _ x e h = absurd cc
+  number_t ts = bind_t any_t (λ t. bind_t (call_t optional_sound) (λ unit. pure_t (λ us h. number_primary S ts h.0 us t.kind (span_of t) unit h.1.0 h.1.1 h.2)))
 
   primary_by_t : (ts : List Token) (s : Start) → Triple (λ us. (us ≡ ts) × (spec.start_of (kind_of us) ≡ s)) (spec.primary_by turns simple s) (IsPrimary S ts)
   primary_by_t ts a_start.Named = bind_t (before_t (λ us h. h.0) (start_t name_sound)) (λ n. pure_t (λ us h. IsPrimary.name h))
   primary_by_t ts a_start.Numbered = number_t ts
-  primary_by_t ts a_start.Spelled = bind_t any_t (λ t. pure_t (λ us h. literal_primary ts us t.kind (span_of t) h.0 h.1))
+  primary_by_t ts a_start.Spelled = bind_t any_t (λ t. pure_t (λ us h. literal_primary S ts us t.kind (span_of t) h.0 h.1))
   primary_by_t ts a_start.Bracketed = before_t (λ us h. h.0) (start_t bracket_sound)
   primary_by_t ts a_start.Other = stop_t
 

@@ -16,59 +16,9 @@ use Rattle.vhdl_tree.specs.Lists.{Many, Operations}
 use Rattle.vhdl_tree.specs.Expressions.{link_of, name_of, SimpleWithin, Expression, NameOf, IsName, IsPrimary, IsFactor, IsTerm, IsSigned, IsSimple, IsRelation, IsExpression}
 use Rattle.vhdl_expressions.specs.Reading as expressions
 use Rattle.vhdl_expressions.specs.Reading.{Layer}
+use Rattle.vhdl_expressions.proofs.NamedBounds.{name_in, as_name, chain_opens, literal_opens, within_name}
 use Rattle.vhdl_reader.specs.Reading as spec
 use Rattle.vhdl_reader.specs.Reading.{formal_of}
-
--- the name that an expression is, by one level of it
-abbrev name_in : Layer → Option Name
-name_in (Expr-F.Name n) = Some n
-name_in _ = None
-
-abbrev as_name : Expr → Option Name
-as_name e = name_in (out-Expr e)
-
-name_opens : (m : Name) → as_name (expr.Name m) ≡ Some m
-name_opens m = first_of (search (rules, the_lemmas), grind (arith, the_lemmas))
-
-chain_opens : (place : ℕ) (a : Expr) (links : List Link) → as_name (expr.Chain place a links) ≡ None
-chain_opens place a links = first_of (search (rules, the_lemmas), grind (arith, the_lemmas))
-
-unary_opens : (place : ℕ) (o : Unary) (a : Expr) → as_name (expr.Unary place o a) ≡ None
-unary_opens place o a = first_of (search (rules, the_lemmas), grind (arith, the_lemmas))
-
-number_opens : (t : Token) (unit : Option Token) → as_name (expr.Number t unit) ≡ None
-number_opens t unit = first_of (search (rules, the_lemmas), grind (arith, the_lemmas))
-
-literal_opens : (t : Token) → as_name (expr.Literal t) ≡ None
-literal_opens t = first_of (search (rules, the_lemmas), grind (arith, the_lemmas))
-
-module _ (S : List Token → Expr → List Token → Type 0) where
-  primary_name : (ts : List Token) (a : Expr) (us : List Token) (n : Name) → IsPrimary S ts a us → as_name a ≡ Some n → expressions.begins_name (kind_of ts) ≡ true → IsName S ts n us
-  primary_name ts a us n (IsPrimary.name {n = m} r) is begins = let e = name_opens m in let same : m ≡ n = cc in subst (λ x. IsName S ts x us) same r
-  primary_name ts a us n (IsPrimary.number {x = x} {unit = unit} r) is begins = let e = number_opens (tok kind.Int x) unit in absurd cc
-  primary_name ts a us n (IsPrimary.literal {k = k} {x = x} r) is begins = let e = literal_opens (tok k x) in absurd cc
-  primary_name ts a us n (IsPrimary.bracket r) is begins = absurd cc
-
-  factor_name : (ts : List Token) (a : Expr) (us : List Token) (n : Name) → IsFactor S ts a us → as_name a ≡ Some n → expressions.begins_name (kind_of ts) ≡ true → IsName S ts n us
-  factor_name ts a us n (IsFactor.plain r) is begins = primary_name ts a us n r is begins
-  factor_name ts a us n (IsFactor.power {a = b} {b = d} r s) is begins = let e = chain_opens (place_of ts) b (link_of op.Power d ∷ []) in absurd cc
-  factor_name ts a us n (IsFactor.prefixed {x = x} {o = o} {a = b} p r) is begins = let e = unary_opens x.start o b in absurd cc
-
-  term_name : (ts : List Token) (a : Expr) (us : List Token) (n : Name) → IsTerm S ts a us → as_name a ≡ Some n → expressions.begins_name (kind_of ts) ≡ true → IsName S ts n us
-  term_name ts a us n (IsTerm.factors {a = b} r Operations.none) is begins = factor_name ts b us n r is begins
-  term_name ts a us n (IsTerm.factors {a = b} r (Operations.more {op = o} {a = d} {all = links} p s rest)) is begins = let e = chain_opens (place_of ts) b (link_of o d ∷ links) in absurd cc
-
-  signed_name : (ts : List Token) (a : Expr) (us : List Token) (n : Name) → IsSigned S ts a us → as_name a ≡ Some n → expressions.begins_name (kind_of ts) ≡ true → IsName S ts n us
-  signed_name ts a us n (IsSigned.plain r) is begins = term_name ts a us n r is begins
-  signed_name ts a us n (IsSigned.signed {x = x} {o = o} {a = b} p r) is begins = let e = unary_opens x.start o b in absurd cc
-
-  simple_name : (ts : List Token) (a : Expr) (us : List Token) (n : Name) → IsSimple S ts a us → as_name a ≡ Some n → expressions.begins_name (kind_of ts) ≡ true → IsName S ts n us
-  simple_name ts a us n (IsSimple.terms {a = b} r Operations.none) is begins = signed_name ts b us n r is begins
-  simple_name ts a us n (IsSimple.terms {a = b} r (Operations.more {op = o} {a = d} {all = links} p s rest)) is begins = let e = chain_opens (place_of ts) b (link_of o d ∷ links) in absurd cc
-
-within_name : (depth : ℕ) (ts : List Token) (a : Expr) (us : List Token) (n : Name) → SimpleWithin depth ts a us → as_name a ≡ Some n → expressions.begins_name (kind_of ts) ≡ true → NameOf ts n us
-within_name zero ts a us n h is begins = absurd h
-within_name (suc depth) ts a us n h is begins = (depth, simple_name (SimpleWithin depth) ts a us n h is begins)
 
 relation_name : (depth : ℕ) (ts : List Token) (a : Expr) (us : List Token) (n : Name) → IsRelation (SimpleWithin depth) ts a us → as_name a ≡ Some n → expressions.begins_name (kind_of ts) ≡ true
     → NameOf ts n us

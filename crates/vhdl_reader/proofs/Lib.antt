@@ -5,6 +5,7 @@ mod ConcurrentCompletes
 mod Cut
 mod Deep
 mod Follow
+mod Fronts
 mod InstanceCompletes
 mod Judged
 mod Laws
@@ -12,4 +13,5 @@ mod Parsed
 mod Sounds
 mod Turns
 mod UnitCompletes
+mod UnitFronts
 mod UnitSounds

@@ -7,13 +7,14 @@ use Rattle.vhdl_tree.specs.Faults.{IsSyntaxFault}
 use Rattle.vhdl_cursor.specs.declared.stop.Stop.{Stop}
 use Rattle.vhdl_cursor.specs.declared.stop.Stop.TheVariants as stops
 use Rattle.vhdl_cursor.specs.Steps.{Found, Stopped, Reads, whole}
-use Rattle.vhdl_cursor.proofs.Whole.{whole_found, whole_spends, whole_stops, one_whole, whole_is}
+use Rattle.vhdl_cursor.proofs.Whole.{whole_found, whole_spends, whole_stops, whole_begins, one_whole, whole_is}
 use Rattle.vhdl_reader.specs.declared.error.SyntaxError.{SyntaxError}
 use Rattle.vhdl_reader.specs.Reading.{design_file}
 use Rattle.vhdl_reader.specs.Judgement.{Parses, Gives, error_at}
 use Rattle.vhdl_reader.proofs.Laws.{design_file_law}
 use Rattle.vhdl_reader.proofs.UnitSounds.{design_file_sound}
 use Rattle.vhdl_reader.proofs.UnitCompletes.{design_file_up}
+use Rattle.vhdl_reader.proofs.UnitFronts.{design_file_viable}
 
 -- a text has one tree at most
 pub one_sentence : (tokens : List Token) (tree other : DesignFile) → Sentence tokens tree → Sentence tokens other → tree ≡ other
@@ -23,7 +24,12 @@ one_sentence tokens tree other h g = let bound = length tokens + 1 in
 module _ (tokens left : List Token) (bound : ℕ) (enough : length tokens < bound) where
   fault : whole (design_file bound) tokens ≡ Stopped left → IsSyntaxFault tokens (length tokens - length left)
   fault e = let s = whole_stops bound (design_file bound) IsDesignFile (design_file_law bound) (design_file_sound bound) (design_file_up bound) tokens left enough e in
-      record { within = s.within; early = λ less others tree same h. s.early less others tree same h; ends = λ same tree h. s.ends same tree h }
+      let b = whole_begins (design_file bound) IsDesignFile (design_file_viable bound) tokens left e in record {
+        within = s.within;
+        early = λ less others tree same h. s.early less others tree same h;
+        ends = λ same tree h. s.ends same tree h;
+        begins = record { others = b.others; tree = b.tree; same = b.same; sentence = b.stands };
+      }
 
   unspent : Reads (whole (design_file bound) tokens) (Err stops.Bound) left → ⊥
   unspent e = whole_spends bound (design_file bound) IsDesignFile (design_file_law bound) (design_file_sound bound) (design_file_up bound) tokens enough e

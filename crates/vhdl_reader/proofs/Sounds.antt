@@ -26,6 +26,31 @@ use Rattle.vhdl_reader.specs.Reading.{formal_of, sensitivity_names, sensitivity_
 use Rattle.vhdl_reader.proofs.BareNames.{IsBare, formal_found, formal_unfound}
 use Rattle.vhdl_reader.proofs.Bodies.{IsBodyOf, IsBody, IsLabelled, body_is, labelled_is, plain_is}
 
+-- a sensitivity list, and the word behind it
+abbrev pub Head : List Token → Sensitivity → List Token → Type 0
+Head ts s us = (vs : List Token) × (t : Option Token) × IsSensitivity ts s vs × IsOptional (kind.Word reserved.Is) vs t us
+
+-- the end of a process
+pub record End (ts : List Token) (name : Option Token) (us : List Token) : Type 0 where
+  pub xs : List Token
+  pub ys : List Token
+  pub first : Span
+  pub class : Span
+  pub last : Span
+  pub postponed : Option Token
+  pub stands : ts ≡ word reserved.End first ∷ xs
+  pub again : IsOptional (kind.Word reserved.Postponed) xs postponed (word reserved.Process class ∷ ys)
+  pub named : IsOptional kind.Identifier ys name (mark delimiter.Semicolon last ∷ us)
+
+-- alternatives, and a condition behind them
+abbrev pub ConditionsOf : List Token → Conditions → List Token → Type 0
+ConditionsOf ts c us = (vs : List Token) × Many IsAlternative ts c.alternatives vs × Perhaps (kind.Word reserved.When) Expression vs c.condition us
+
+-- an association by a bare identifier
+pub named_is : {ts us vs : List Token} {y : Span} {t : Token} {a : Actual} → IsBare ts (mark delimiter.Arrow y ∷ us) t → IsActual us a vs
+    → IsAssociation ts (record { formal = Some t; actual = a }) vs
+named_is {ts = ts} {us = us} b r = IsAssociation.associated (subst (λ t. IsFormal ts (Some t) us) (sym b.token) (placed IsFormal b.stands IsFormal.present)) r
+
 module _ (bound : ℕ) where
   -- ---- processes
 
@@ -45,25 +70,9 @@ module _ (bound : ℕ) where
   unfolding sensitivity
   sensitivity_sound = record { from = λ ts. on_t _ (sensitivity_list_t ts) (pure_t (λ us h. placed IsSensitivity h IsSensitivity.unlisted)) }
 
-  -- a sensitivity list, and the word behind it
-  abbrev Head : List Token → Sensitivity → List Token → Type 0
-  Head ts s us = (vs : List Token) × (t : Option Token) × IsSensitivity ts s vs × IsOptional (kind.Word reserved.Is) vs t us
-
   process_head_sound : Sound (process_head bound) Head
   unfolding process_head
   process_head_sound = record { from = λ ts. bind_t (start_t sensitivity_sound) (λ s. bind_t (call_t optional_sound) (λ t. pure_t (λ us h. (h.0, t, h.1, h.2)))) }
-
-  -- the end of a process
-  record End (ts : List Token) (name : Option Token) (us : List Token) : Type 0 where
-    xs : List Token
-    ys : List Token
-    first : Span
-    class : Span
-    last : Span
-    postponed : Option Token
-    stands : ts ≡ word reserved.End first ∷ xs
-    again : IsOptional (kind.Word reserved.Postponed) xs postponed (word reserved.Process class ∷ ys)
-    named : IsOptional kind.Identifier ys name (mark delimiter.Semicolon last ∷ us)
 
   process_end_sound : Sound (process_end bound) End
   unfolding process_end
@@ -79,10 +88,6 @@ module _ (bound : ℕ) where
       (IsBodyOf.process (IsProcess.process h.1.1.1.1.2.2 h.1.1.1.1.2.3 h.1.1.1.2 (subst (StatementsOf h.1.0 all) h.2.stands h.1.2) h.2.again h.2.named))))))))
 
   -- ---- concurrent assignments
-
-  -- alternatives, and a condition behind them
-  abbrev ConditionsOf : List Token → Conditions → List Token → Type 0
-  ConditionsOf ts c us = (vs : List Token) × Many IsAlternative ts c.alternatives vs × Perhaps (kind.Word reserved.When) Expression vs c.condition us
 
   conditions_t : (ts : List Token) (n : ℕ) (found : List Alternative) → Triple (Many IsAlternative ts found) (conditions_from bound n found) (ConditionsOf ts)
   unfolding conditions_from
@@ -118,10 +123,6 @@ module _ (bound : ℕ) where
   actual_sound : Sound (actual bound) IsActual
   unfolding actual
   actual_sound = record { from = λ ts. look_t spec.is_open (spec.actual_by bound) (actual_by_t ts) }
-
-  named_is : {ts us vs : List Token} {y : Span} {t : Token} {a : Actual} → IsBare ts (mark delimiter.Arrow y ∷ us) t → IsActual us a vs
-      → IsAssociation ts (record { formal = Some t; actual = a }) vs
-  named_is {ts = ts} {us = us} b r = IsAssociation.associated (subst (λ t. IsFormal ts (Some t) us) (sym b.token) (placed IsFormal b.stands IsFormal.present)) r
 
   named_actual_t : (ts : List Token) (t : Token) → Triple (λ us. (y : Span) × IsBare ts (mark delimiter.Arrow y ∷ us) t) (named_actual bound t) (IsAssociation ts)
   unfolding named_actual

@@ -23,37 +23,37 @@ use Rattle.vhdl_reader.proofs.Sounds.{concurrent_sound}
 -- ---- the parts of an architecture
 
 -- its name
-data IsHead : List Token → Token → List Token → Type 0 where
+pub data IsHead : List Token → Token → List Token → Type 0 where
   head : {us : List Token} {x y : Span} → IsHead (word reserved.Architecture x ∷ id y ∷ us) (id y) us
 
 -- its entity
-data IsOf : List Token → Token → List Token → Type 0 where
+pub data IsOf : List Token → Token → List Token → Type 0 where
   entity : {us : List Token} {z u v : Span} → IsOf (word reserved.Of z ∷ id u ∷ word reserved.Is v ∷ us) (id u) us
 
 -- its statements
-data IsStatements : List Token → List Concurrent → List Token → Type 0 where
+pub data IsStatements : List Token → List Concurrent → List Token → Type 0 where
   statements : {us vs : List Token} {w : Span} {all : List Concurrent} → Many IsConcurrent us all vs → IsStatements (word reserved.Begin w ∷ us) all vs
 
 -- its end
-data IsEnd : List Token → Option Token → List Token → Type 0 where
+pub data IsEnd : List Token → Option Token → List Token → Type 0 where
   closed : {us vs ws : List Token} {t s : Span} {class name : Option Token} → IsOptional (kind.Word reserved.Architecture) us class vs
       → IsOptional kind.Identifier vs name (mark delimiter.Semicolon s ∷ ws) → IsEnd (word reserved.End t ∷ us) name ws
 
-architecture_is : {ts us vs ws xs ys : List Token} {name e : Token} {declarations : List Declaration} {all : List Concurrent} {end_name : Option Token}
+pub architecture_is : {ts us vs ws xs ys : List Token} {name e : Token} {declarations : List Declaration} {all : List Concurrent} {end_name : Option Token}
     → IsHead ts name us → IsOf us e vs → Many IsDeclaration vs declarations ws → IsStatements ws all xs → IsEnd xs end_name ys
     → IsArchitecture ts (record { line = line_of ts; name = name; entity = e; declarations = declarations; statements = all; end_name = end_name }) ys
 architecture_is IsHead.head IsOf.entity ds (IsStatements.statements all) (IsEnd.closed r q) = IsArchitecture.architecture ds all r q
 
 -- an identifier, and the dot behind it
-data IsPrefix : List Token → Token → List Token → Type 0 where
+pub data IsPrefix : List Token → Token → List Token → Type 0 where
   dotted : {us : List Token} {x y : Span} → IsPrefix (id x ∷ mark delimiter.Dot y ∷ us) (id x) us
 
-use_is : {ts us vs ws : List Token} {x w : Span} {library name suffix : Token} → IsPrefix ts library us → IsPrefix us name vs → IsSuffix vs suffix (mark delimiter.Semicolon w ∷ ws)
+pub use_is : {ts us vs ws : List Token} {x w : Span} {library name suffix : Token} → IsPrefix ts library us → IsPrefix us name vs → IsSuffix vs suffix (mark delimiter.Semicolon w ∷ ws)
     → IsContext (word reserved.Use x ∷ ts) (a_clause.Use (record { library = library; «package» = name; suffix = suffix })) ws
 use_is IsPrefix.dotted IsPrefix.dotted r = IsContext.use_ r
 
 -- one more unit at the end of a file
-file_snoc : {ts us vs : List Token} {file : DesignFile} {a : DesignUnit} (all : List DesignUnit) → IsDesignFile ts file us → file.units ≡ all → IsDesignUnit us a vs
+pub file_snoc : {ts us vs : List Token} {file : DesignFile} {a : DesignUnit} (all : List DesignUnit) → IsDesignFile ts file us → file.units ≡ all → IsDesignUnit us a vs
     → IsDesignFile ts (record { units = all ++ a ∷ [] }) vs
 file_snoc {ts = ts} {vs = vs} {a = a} all (IsDesignFile.units one rest) e r = subst (λ xs. IsDesignFile ts (record { units = xs ++ a ∷ [] }) vs) e (IsDesignFile.units one (many_snoc rest r))
 

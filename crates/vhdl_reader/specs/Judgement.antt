@@ -3,7 +3,7 @@ use Rattle.std.specs.Prelude.{◌≡◌, ℕ, ◌⊎◌, List, nat_le, if◌then
 use Rattle.vhdl_tokens.specs.declared.token.Token.{Token}
 use Rattle.vhdl_tree.specs.declared.units.DesignFile.{DesignFile}
 use Rattle.vhdl_tree.specs.Units.{Sentence}
-use Rattle.vhdl_tree.specs.Faults.{NestsWell, IsSyntaxFault, IsNestingFault}
+use Rattle.vhdl_tree.specs.Faults.{NestsWell, IsSyntaxFault, IsSyntaxRefusal, IsNestingRefusal}
 use Rattle.vhdl_cursor.specs.declared.stop.Stop.{Stop}
 use Rattle.vhdl_cursor.specs.declared.stop.Stop.TheVariants as stops
 use Rattle.vhdl_reader.specs.declared.error.SyntaxError.{SyntaxError}
@@ -12,8 +12,8 @@ use Rattle.vhdl_reader.specs.declared.error.SyntaxError.TheVariants as error
 -- A tree only of a sentence that doesn't nest too deep, and each error only at its cause; NoMemory is free.
 abbrev pub Judges : List Token → Result DesignFile SyntaxError → Type 0
 Judges tokens (Ok tree) = Sentence tokens tree × NestsWell tokens
-Judges tokens (Err (error.Syntax place)) = IsSyntaxFault tokens place
-Judges tokens (Err (error.Nesting place)) = IsNestingFault tokens place
+Judges tokens (Err (error.Syntax place)) = IsSyntaxRefusal tokens place
+Judges tokens (Err (error.Nesting place)) = IsNestingRefusal tokens place
 Judges tokens (Err error.NoMemory) = Unit {0}
 
 -- the same without a look at the depth

@@ -3,7 +3,7 @@
 ghost use Rattle.std.specs.Prelude.{◌≡◌, ◌-◌, List};
 ghost use Rattle.vhdl_tree.specs.declared.units.DesignFile.{DesignFile};
 ghost use Rattle.vhdl_tree.specs.Units.{Sentence};
-ghost use Rattle.vhdl_tree.specs.Faults.{NestsWell};
+ghost use Rattle.vhdl_tree.specs.Faults.{NestsWell, OneSyntaxFault};
 ghost use Rattle.vhdl_cursor.specs.declared.stop.Stop.TheVariants.{Bound};
 ghost use Rattle.vhdl_cursor.specs.Steps.{Reads, whole};
 ghost use Rattle.vhdl_reader.specs.Judgement.{Judges, Parses, Gives, error_at, at_depth};
@@ -75,10 +75,11 @@ fn at_depth(parsed: Result<DesignFile, SyntaxError>, deep: usize) -> SyntaxError
 
 /// Reads the tokens of a text into the tree of a design file (IEEE Std 1076-2008, 13.1).
 ///
-/// It fails with the token at which no design file goes on, or with the first token at which brackets and statements nest
-/// more than 64 deep, whichever comes first, and for want of memory.
+/// It fails with the first token with which no design file goes on, or the number of tokens where they end too early; with
+/// the first token at which brackets and statements nest more than 64 deep, where that stands before it or there is none;
+/// and for want of memory.
 pub fn read_design(alloc: Global, tokens: &[Token]) -> Result<DesignFile, SyntaxError>
-    // A tree only of a design file that doesn't nest too deep, and each error only at its cause.
+    // A tree only of a design file that doesn't nest too deep, and each error only where it is the one to be answered.
     ensures judged { Judges tokens.now result }
     // Each such design file has its tree, unless memory runs out.
     ensures only { (tree : DesignFile) → Sentence tokens.now tree → NestsWell tokens.now → Gives result tree }
@@ -91,6 +92,11 @@ pub fn read_design(alloc: Global, tokens: &[Token]) -> Result<DesignFile, Syntax
         }
     }
 }
+
+/// A list of tokens has one syntax fault at most, so what [`read_design`] answers is determined but for want of memory.
+pub fn one_syntax_fault()
+    ensures { OneSyntaxFault }
+{}
 
 /// The tokens of a text are those of one tree at most.
 pub fn one_tree()

@@ -1,12 +1,12 @@
-//! Why a list of tokens has no tree.
+//! Why a list of tokens is refused.
 
 use std::error::Error;
 use std::fmt;
 
-/// Why a list of tokens has no tree. Tokens are counted from 0.
+/// Why a list of tokens is refused. Tokens are counted from 0.
 #[derive(Clone, Copy, Debug, PartialEq, Eq)]
 pub enum SyntaxError {
-    /// No design file begins with the tokens up to this one; or it is the number of tokens, and they end too early.
+    /// The first token with which no design file goes on; or the number of tokens, where they end too early.
     Syntax {
         /// The number of the token.
         token: usize,

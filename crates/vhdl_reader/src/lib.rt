@@ -13,5 +13,5 @@ mod processes;
 mod tables;
 mod units;
 
-pub use design::{one_tree, read_design};
+pub use design::{one_syntax_fault, one_tree, read_design};
 pub use error::SyntaxError;

@@ -7,3 +7,4 @@ pub mod Reached
 pub mod Read
 mod Sounds
 mod Turns
+mod Fronts

@@ -1,4 +1,4 @@
--- Why a list of tokens is no design file: a syntax fault, or brackets and statements that nest too deep.
+-- Why a list of tokens is refused: a syntax fault, or brackets and statements that nest too deep.
 use Rattle.std.specs.Prelude.{◌≡◌, ℕ, ◌+◌, ◌<◌, ◌≤◌, Bool, true, false, not, List, [], ◌∷◌, length, take, if◌then◌else◌}
 use Rattle.vhdl_tokens.specs.declared.token.Kind.{Kind}
 use Rattle.vhdl_tokens.specs.declared.token.Kind.TheVariants as kind
@@ -8,11 +8,19 @@ use Rattle.vhdl_tokens.specs.declared.reserved.Reserved.TheVariants as reserved
 use Rattle.vhdl_tree.specs.declared.units.DesignFile.{DesignFile}
 use Rattle.vhdl_tree.specs.Units.{Sentence}
 
--- the token at which no design file goes on, or the number of tokens, where they end too early
+-- some design file begins with the tokens before this place
+pub record BeginsSentence (tokens : List Token) (place : ℕ) : Type 0 where
+  pub others : List Token
+  pub tree : DesignFile
+  pub same : take place others ≡ take place tokens
+  pub sentence : Sentence others tree
+
+-- the first token with which no design file goes on, or the number of tokens, where they end too early
 pub record IsSyntaxFault (tokens : List Token) (place : ℕ) : Type 0 where
   pub within : place ≤ length tokens
   pub early : place < length tokens → (others : List Token) (tree : DesignFile) → take (place + 1) others ≡ take (place + 1) tokens → Sentence others tree → ⊥
   pub ends : place ≡ length tokens → (tree : DesignFile) → Sentence tokens tree → ⊥
+  pub begins : BeginsSentence tokens place
 
 -- ---- depth: brackets, and the statements that hold statements
 
@@ -64,3 +72,19 @@ pub record IsNestingFault (tokens : List Token) (place : ℕ) : Type 0 where
   pub within : place < length tokens
   pub deep : IsTooDeep tokens place
   pub first : (before : ℕ) → before < place → IsTooDeep tokens before → ⊥
+
+-- ---- which of the two is answered
+
+-- the syntax fault, where no token before its own is too deep
+pub record IsSyntaxRefusal (tokens : List Token) (place : ℕ) : Type 0 where
+  pub fault : IsSyntaxFault tokens place
+  pub first : (deep : ℕ) → IsNestingFault tokens deep → place ≤ deep
+
+-- the nesting fault, where its token stands before that of the syntax fault, or where there is no syntax fault
+pub record IsNestingRefusal (tokens : List Token) (place : ℕ) : Type 0 where
+  pub fault : IsNestingFault tokens place
+  pub first : (syntax_at : ℕ) → IsSyntaxFault tokens syntax_at → place < syntax_at
+
+-- a list of tokens has one syntax fault at most
+abbrev pub OneSyntaxFault : Type 0
+OneSyntaxFault = (tokens : List Token) (place other : ℕ) → IsSyntaxFault tokens place → IsSyntaxFault tokens other → place ≡ other

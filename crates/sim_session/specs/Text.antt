@@ -5,7 +5,7 @@ use Rattle.vhdl_tokens.specs.declared.token.TokenError.TheVariants as token_erro
 use Rattle.vhdl_tokens.specs.Text.{Tokens, IsFault}
 use Rattle.vhdl_tree.specs.declared.units.DesignFile.{DesignFile}
 use Rattle.vhdl_tree.specs.Units.{Sentence}
-use Rattle.vhdl_tree.specs.Faults.{NestsWell, IsSyntaxFault, IsNestingFault}
+use Rattle.vhdl_tree.specs.Faults.{NestsWell, IsSyntaxRefusal, IsNestingRefusal}
 use Rattle.vhdl_types.specs.declared.fault.Fault.{Fault}
 use Rattle.vhdl_names.specs.Static.{Static}
 use Rattle.sim_design.specs.declared.Design.{Design}
@@ -22,10 +22,11 @@ pub record IsTreeOf (text : List ℕ) (tree : DesignFile) : Type 0 where
   pub sentence : Sentence tokens tree
   pub nests : NestsWell tokens
 
--- the text is of the first form, and the design is what it stands for
+-- the text breaks no static rule and is of the first form, and the design is what it stands for
 pub record FirstForm (text : List ℕ) (d : Design) : Type 0 where
   pub tree : DesignFile
   pub reads : IsTreeOf text tree
+  pub meets : Static text tree None
   pub form : IsForm text tree d
 
 -- a fault of the text's tokens
@@ -51,27 +52,36 @@ pub record IsUnbuilt (text : List ℕ) : Type 0 where
 abbrev pub IsDesignFault : List ℕ → DesignFault → Type 0
 IsDesignFault text (design.BadByte place) = IsFault text (token_error.BadByte place)
 IsDesignFault text (design.BadLiteral place) = IsFault text (token_error.BadLiteral place)
-IsDesignFault text (design.Syntax token) = TokensBreak text (λ tokens. IsSyntaxFault tokens token)
-IsDesignFault text (design.Nesting token) = TokensBreak text (λ tokens. IsNestingFault tokens token)
+IsDesignFault text (design.Syntax token) = TokensBreak text (λ tokens. IsSyntaxRefusal tokens token)
+IsDesignFault text (design.Nesting token) = TokensBreak text (λ tokens. IsNestingRefusal tokens token)
 IsDesignFault text (design.Static f) = IsBroken text f
 IsDesignFault text design.NotBuilt = IsUnbuilt text
-
--- why a tree that is of no form that runs is refused
-abbrev pub IsUnbuiltFor : SessionFault → List ℕ → DesignFile → Type 0
-IsUnbuiltFor (fault.Design (design.Static f)) text tree = Static text tree (Some f)
-IsUnbuiltFor (fault.Design design.NotBuilt) text tree = Static text tree None
-IsUnbuiltFor fault.NoMemory text tree = Unit {0}
-IsUnbuiltFor _ text tree = ⊥
 
 -- the tree is of no form that runs
 abbrev pub HasNoForm : List ℕ → DesignFile → Type 0
 HasNoForm text tree = (d : Design) → IsForm text tree d → ⊥
 
--- the design of a tree, or why there is none: it is of no form that runs, or memory ran out
+-- the tree meets the static rules, or this is the one that is broken first, or memory ran out
+abbrev pub IsMet : Result (Unit {0}) SessionFault → List ℕ → DesignFile → Type 0
+IsMet (Ok done) text tree = Static text tree None
+IsMet (Err (fault.Design (design.Static f))) text tree = Static text tree (Some f)
+IsMet (Err fault.NoMemory) text tree = Unit {0}
+IsMet (Err _) text tree = ⊥
+
+-- the design of a tree that meets the static rules, or that it is of no form that runs
+abbrev pub IsBuilt : Result Design SessionFault → List ℕ → DesignFile → Type 0
+IsBuilt (Ok d) text tree = IsForm text tree d
+IsBuilt (Err (fault.Design design.NotBuilt)) text tree = HasNoForm text tree
+IsBuilt (Err fault.NoMemory) text tree = Unit {0}
+IsBuilt (Err _) text tree = ⊥
+
+-- the design of a tree, or why there is none: a static rule is broken, it is of no form that runs, or memory ran out
 abbrev pub IsDesignOf : Result Design SessionFault → List ℕ → DesignFile → Type 0
-IsDesignOf (Ok d) text tree = IsForm text tree d
+IsDesignOf (Ok d) text tree = Static text tree None × IsForm text tree d
+IsDesignOf (Err (fault.Design (design.Static f))) text tree = Static text tree (Some f)
+IsDesignOf (Err (fault.Design design.NotBuilt)) text tree = Static text tree None × HasNoForm text tree
 IsDesignOf (Err fault.NoMemory) text tree = Unit {0}
-IsDesignOf (Err e) text tree = IsUnbuiltFor e text tree × HasNoForm text tree
+IsDesignOf (Err _) text tree = ⊥
 
 -- a text is refused for its cause, and is not of the first form
 pub record IsRefusedText (text : List ℕ) (f : DesignFault) : Type 0 where

@@ -23,12 +23,12 @@ pub enum DesignFault {
         /// The place of its first byte, from 0.
         place: u32,
     },
-    /// No design file begins with the tokens up to this one; or it is the number of tokens, and they end too early.
+    /// The first token with which no design file goes on; or the number of tokens, where they end too early.
     Syntax {
         /// The number of the token, from 0.
         token: usize,
     },
-    /// The first token at which brackets and statements nest more than 64 deep.
+    /// The first token at which brackets and statements nest more than 64 deep, where no syntax fault stands there or before.
     Nesting {
         /// The number of the token, from 0.
         token: usize,

@@ -234,8 +234,8 @@ token_f {P = P} {before = before} k q {after = after} each = record {
     by f [] b true e = absurd cc
     by f (t ∷ us) b true e = let is : t ≡ tok k (span_of t) = ap (λ j. tok j (span_of t)) (same_true t.kind k e) in
         behind_f after f (one_before (tok k (span_of t))) (t ∷ us) us (ap (λ x. x ∷ us) is) (q t us)
-            (subst (λ x. Leads after (f then one_before (tok k (span_of t))) us (q x us)) (sym is)
-                ((each (span_of t)).holds (f then one_before (tok k (span_of t))) us tt (λ vs. b (tok k (span_of t) ∷ vs))))
+        (subst (λ x. Leads after (f then one_before (tok k (span_of t))) us (q x us)) (sym is)
+        ((each (span_of t)).holds (f then one_before (tok k (span_of t))) us tt (λ vs. b (tok k (span_of t) ∷ vs))))
     by f us b false e = let s = (each somewhere).seed (f then one_before (tok k somewhere)) (λ vs. b (tok k somewhere ∷ vs)) in (none_before, refl, (one_before (tok k somewhere) then s.0, s.1, s.2))
 
 -- ---- what these are as productions
@@ -251,9 +251,11 @@ optional_viable {k = k} = record { leads = record { holds = λ f us known b. by 
     by : (f : Front) (us : List Token) → Holds (λ ts us. us ≡ ts) f → (s : Bool) → sees k us ≡ s
         → Leads (λ a. Some_of (IsOptional k)) f us (if s then and_then (any us) (λ t. pure (Some t)) else Found None us)
     by f [] b true e = absurd cc
-    by f (t ∷ us) b true e = let is : t ≡ tok k (span_of t) = ap (λ j. tok j (span_of t)) (same_true t.kind k e) in
-        (one_before (tok k (span_of t)), ap (λ x. x ∷ us) is,
-            λ vs. (Some (tok k (span_of t)), subst (λ xs. IsOptional k xs (Some (tok k (span_of t))) vs) (b (tok k (span_of t) ∷ vs)) IsOptional.present))
+    by f (t ∷ us) b true e = let is : t ≡ tok k (span_of t) = ap (λ j. tok j (span_of t)) (same_true t.kind k e) in (
+      one_before (tok k (span_of t)),
+      ap (λ x. x ∷ us) is,
+      λ vs. (Some (tok k (span_of t)), subst (λ xs. IsOptional k xs (Some (tok k (span_of t))) vs) (b (tok k (span_of t) ∷ vs)) IsOptional.present),
+    )
     by f us b false e = (none_before, refl, λ vs. (None, subst (λ xs. IsOptional k xs None vs) (b vs) IsOptional.absent))
 
 -- [ w x ]

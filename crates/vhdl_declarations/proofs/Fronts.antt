@@ -257,10 +257,11 @@ module _ (bound : ℕ) where
 
   entity_rest_f : (line : ℕ) (t : Token) → LeadsTo Named (spec.entity_rest bound line t) (λ a. Some_of IsEntity)
   entity_rest_f line t = bind_f (call_f generics_viable) (λ gs. bind_f (call_f ports_viable) (λ ps. bind_f entity_end_f (λ end_name.
-      pure_f (λ ts us h. let ends = h.1 in let interfaces = ends.1.1.1 in let named = interfaces.1.1.1.1 in
-      (record { line = line_of ts; name = id named.0; generics = interfaces.1.2.0; ports = interfaces.2.0; end_name = ends.2.0 },
+      pure_f (λ ts us h. let ends = h.1 in let interfaces = ends.1.1.1 in let named = interfaces.1.1.1.1 in (
+        record { line = line_of ts; name = id named.0; generics = interfaces.1.2.0; ports = interfaces.2.0; end_name = ends.2.0 },
         subst (λ zs. IsEntity zs (record { line = line_of zs; name = id named.0; generics = interfaces.1.2.0; ports = interfaces.2.0; end_name = ends.2.0 }) us) named.2.1
-        (IsEntity.declared interfaces.1.2.1 interfaces.2.1 ends.1.2.1 ends.2.1))))))
+            (IsEntity.declared interfaces.1.2.1 interfaces.2.1 ends.1.2.1 ends.2.1),
+      )))))
 
   pub entity_viable : Viable (entity bound) IsEntity
   unfolding entity

@@ -41,9 +41,16 @@ named_f bound = record {
   where
     by : (f : Front) (us : List Token) → spec.begins_name (kind_of us) ≡ true → Holds (λ ts us. us ≡ ts) f → (r : Answer Expr) → simple_at bound bound us ≡ r
         → Leads (λ a. Some_of (SimpleWithin (suc bound))) f us r → Leads (Begun bound true) f us r
-    by f us begins b (Found a vs) e h = (h.0, h.1, λ ws. (h.2 ws, λ t n is.
-        let l = name_apart us vs n (within_name bound us a vs n (reads (simple_sound bound bound) us a vs e) is begins) in
-        subst (λ zs. Some_of NameOf zs ws) (same_front l.0 h.0 us vs ws l.1 h.1 ∙ b (h.0.put ws)) (l.2 ws)))
+    by f us begins b (Found a vs) e h = (
+      h.0,
+      h.1,
+      λ ws. (
+        h.2 ws,
+        λ t n is.
+            let l = name_apart us vs n (within_name bound us a vs n (reads (simple_sound bound bound) us a vs e) is begins) in
+            subst (λ zs. Some_of NameOf zs ws) (same_front l.0 h.0 us vs ws l.1 h.1 ∙ b (h.0.put ws)) (l.2 ws),
+      ),
+    )
     by f us begins b (Stopped vs) e h = (h.0, h.1, (h.2.0, expr.Literal (id somewhere), λ ws. (h.2.2 ws, λ t. never_named (id somewhere) (f.put (h.0.put (h.2.0.put ws))) ws)))
     by f us begins b Spent e h = tt
 

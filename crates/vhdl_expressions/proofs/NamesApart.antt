@@ -35,14 +35,17 @@ module _ (S : List Token → Expr → List Token → Type 0) (simple : AllApart 
       (l.0 then (one_before (mark delimiter.Arrow x) then m.0), l.1 ∙ ap (λ zs. l.0.put (mark delimiter.Arrow x ∷ zs)) m.1, λ vs. (_, IsItem.named (l.2 (mark delimiter.Arrow x ∷ m.0.put vs)).1 (m.2 vs).1))
 
   part_apart : AllApart (IsPart S)
-  part_apart ts us _ (IsPart.index {ts = inside} {x = x} {y = y} {a = a} r) = let l = expression_apart inside (mark delimiter.RightParen y ∷ us) a r in
-      (one_before (mark delimiter.LeftParen x) then (l.0 then one_before (mark delimiter.RightParen y)), ap (λ zs. mark delimiter.LeftParen x ∷ zs) l.1,
-        λ vs. (_, IsPart.index (l.2 (mark delimiter.RightParen y ∷ vs)).1))
+  part_apart ts us _ (IsPart.index {ts = inside} {x = x} {y = y} {a = a} r) = let l = expression_apart inside (mark delimiter.RightParen y ∷ us) a r in (
+    one_before (mark delimiter.LeftParen x) then (l.0 then one_before (mark delimiter.RightParen y)),
+    ap (λ zs. mark delimiter.LeftParen x ∷ zs) l.1,
+    λ vs. (_, IsPart.index (l.2 (mark delimiter.RightParen y ∷ vs)).1),
+  )
   part_apart ts us _ (IsPart.slice {ts = inside} {us = mid} {x = x} {y = y} {z = z} {a = a} {b = b} {k = k} r is q) =
-      let l = simple inside (tok k z ∷ mid) a r in let m = simple mid (mark delimiter.RightParen y ∷ us) b q in
-      (one_before (mark delimiter.LeftParen x) then (l.0 then (one_before (tok k z) then (m.0 then one_before (mark delimiter.RightParen y)))),
+      let l = simple inside (tok k z ∷ mid) a r in let m = simple mid (mark delimiter.RightParen y ∷ us) b q in (
+        one_before (mark delimiter.LeftParen x) then (l.0 then (one_before (tok k z) then (m.0 then one_before (mark delimiter.RightParen y)))),
         ap (λ zs. mark delimiter.LeftParen x ∷ zs) (l.1 ∙ ap (λ zs. l.0.put (tok k z ∷ zs)) m.1),
-        λ vs. (_, IsPart.slice (l.2 (tok k z ∷ m.0.put (mark delimiter.RightParen y ∷ vs))).1 is (m.2 (mark delimiter.RightParen y ∷ vs)).1))
+        λ vs. (_, IsPart.slice (l.2 (tok k z ∷ m.0.put (mark delimiter.RightParen y ∷ vs))).1 is (m.2 (mark delimiter.RightParen y ∷ vs)).1),
+      )
   part_apart ts us _ (IsPart.attribute {x = x} {y = y}) = (one_before (mark delimiter.Tick x) then one_before (id y), refl, λ vs. (_, IsPart.attribute))
   part_apart ts us _ (IsPart.range {x = x} {y = y}) = (one_before (mark delimiter.Tick x) then one_before (word reserved.Range y), refl, λ vs. (_, IsPart.range))
 
@@ -55,15 +58,19 @@ module _ (S : List Token → Expr → List Token → Type 0) (simple : AllApart 
   primary_apart ts us _ (IsPrimary.number {ts = mid} {x = x} {unit = unit} r) = let l = optional_apart mid us unit r in
       (one_before (tok kind.Int x) then l.0, ap (λ zs. tok kind.Int x ∷ zs) l.1, λ vs. (_, IsPrimary.number (l.2 vs).1))
   primary_apart ts us _ (IsPrimary.literal {k = k} {x = x} is) = (one_before (tok k x), refl, λ vs. (_, IsPrimary.literal is))
-  primary_apart ts us _ (IsPrimary.bracket {ts = inside} {x = x} {y = y} {items = items} r) = let l = separated_apart item_apart inside (mark delimiter.RightParen y ∷ us) items r in
-      (one_before (mark delimiter.LeftParen x) then (l.0 then one_before (mark delimiter.RightParen y)), ap (λ zs. mark delimiter.LeftParen x ∷ zs) l.1,
-        λ vs. (_, IsPrimary.bracket (l.2 (mark delimiter.RightParen y ∷ vs)).1))
+  primary_apart ts us _ (IsPrimary.bracket {ts = inside} {x = x} {y = y} {items = items} r) = let l = separated_apart item_apart inside (mark delimiter.RightParen y ∷ us) items r in (
+    one_before (mark delimiter.LeftParen x) then (l.0 then one_before (mark delimiter.RightParen y)),
+    ap (λ zs. mark delimiter.LeftParen x ∷ zs) l.1,
+    λ vs. (_, IsPrimary.bracket (l.2 (mark delimiter.RightParen y ∷ vs)).1),
+  )
 
   factor_apart : AllApart (IsFactor S)
   factor_apart ts us _ (IsFactor.plain {a = a} r) = let l = primary_apart ts us a r in (l.0, l.1, λ vs. (_, IsFactor.plain (l.2 vs).1))
-  factor_apart ts us _ (IsFactor.power {us = mid} {x = x} {a = a} {b = b} r q) = let l = primary_apart ts (mark delimiter.DoubleStar x ∷ mid) a r in let m = primary_apart mid us b q in
-      (l.0 then (one_before (mark delimiter.DoubleStar x) then m.0), l.1 ∙ ap (λ zs. l.0.put (mark delimiter.DoubleStar x ∷ zs)) m.1,
-        λ vs. (_, IsFactor.power (l.2 (mark delimiter.DoubleStar x ∷ m.0.put vs)).1 (m.2 vs).1))
+  factor_apart ts us _ (IsFactor.power {us = mid} {x = x} {a = a} {b = b} r q) = let l = primary_apart ts (mark delimiter.DoubleStar x ∷ mid) a r in let m = primary_apart mid us b q in (
+    l.0 then (one_before (mark delimiter.DoubleStar x) then m.0),
+    l.1 ∙ ap (λ zs. l.0.put (mark delimiter.DoubleStar x ∷ zs)) m.1,
+    λ vs. (_, IsFactor.power (l.2 (mark delimiter.DoubleStar x ∷ m.0.put vs)).1 (m.2 vs).1),
+  )
   factor_apart ts us _ (IsFactor.prefixed {ts = mid} {k = k} {x = x} {a = a} is r) = let l = primary_apart mid us a r in
       (one_before (tok k x) then l.0, ap (λ zs. tok k x ∷ zs) l.1, λ vs. (_, IsFactor.prefixed is (l.2 vs).1))
 

@@ -72,8 +72,11 @@ module _ (bound : ℕ) where
   process_f : (postponed : Bool) → LeadsTo (λ ts us. (x : Span) × (word reserved.Process x ∷ us ≡ ts)) (process bound postponed) (λ a. Some_of (IsBodyOf postponed))
   unfolding process
   process_f postponed = bind_f (call_f process_head_viable) (λ s. bind_f (call_f (process_declarations_viable bound)) (λ ds. bind_f (word_f _) (λ _.
-      bind_f (call_f (statements_go_on bound)) (λ all. bind_f (call_f process_end_viable) (λ end_name. pure_f (λ ts us h. (_, placed (IsBodyOf postponed) h.1.1.1.1.1.1
-      (IsBodyOf.process (IsProcess.process h.1.1.1.1.2.1.2 h.1.1.1.1.2.1.3 h.1.1.1.2.1 (subst (StatementsOf h.1.0 h.1.2.0) h.2.1.stands h.1.2.1) h.2.1.again h.2.1.named)))))))))
+      bind_f (call_f (statements_go_on bound)) (λ all. bind_f (call_f process_end_viable) (λ end_name. pure_f (λ ts us h. (
+        _,
+        placed (IsBodyOf postponed) h.1.1.1.1.1.1
+            (IsBodyOf.process (IsProcess.process h.1.1.1.1.2.1.2 h.1.1.1.1.2.1.3 h.1.1.1.2.1 (subst (StatementsOf h.1.0 h.1.2.0) h.2.1.stands h.1.2.1) h.2.1.again h.2.1.named)),
+      )))))))
 
   -- ---- concurrent assignments
 
@@ -91,8 +94,11 @@ module _ (bound : ℕ) where
   assignment_to_f : (postponed : Bool) (target : Name) → LeadsTo (Some_of NameOf) (assignment_to bound postponed target) (λ a. Some_of (IsBodyOf postponed))
   unfolding assignment_to
   assignment_to_f postponed target = bind_f (word_f _) (λ _. bind_f (call_f (delay_goes_on bound)) (λ d. bind_f (call_f (waveform_goes_on bound)) (λ first.
-      bind_f (call_f conditions_viable) (λ c. bind_f (word_f _) (λ _. pure_f (λ ts us h. (_, IsBodyOf.assignment
-      (IsConcurrentAssignment.assigned h.1.1.1.1.1.1 h.1.1.1.2.1 h.1.1.2.1 h.1.2.1.1 h.1.2.1.2))))))))
+      bind_f (call_f conditions_viable) (λ c. bind_f (word_f _) (λ _. pure_f (λ ts us h. (
+        _,
+        IsBodyOf.assignment
+            (IsConcurrentAssignment.assigned h.1.1.1.1.1.1 h.1.1.1.2.1 h.1.1.2.1 h.1.2.1.1 h.1.2.1.2),
+      )))))))
 
   assignment_from_f : (postponed : Bool) (t : Token) → LeadsTo (λ ts us. (x : Span) × (id x ∷ us ≡ ts)) (assignment_from bound postponed t) (λ a. Some_of (IsBodyOf postponed))
   unfolding assignment_from

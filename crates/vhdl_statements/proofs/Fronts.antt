@@ -192,7 +192,7 @@ module _ (bound : ℕ) (inner : Parser (List Statement)) (S : List Token → Lis
   unfolding assignment_to
   assignment_to_f target = on_f _ (signal_f target) (on_f _ (variable_f target)
       (stop_f (one_before (mark delimiter.Assign somewhere) then one_before (id somewhere) then one_before (mark delimiter.Semicolon somewhere)) a_body.Null
-        (λ ts us h. let value = identifier_expression somewhere (mark delimiter.Semicolon somewhere ∷ us) in (_, IsBody.variable (IsVariableAssignment.assigned h.1 value.1)))))
+      (λ ts us h. let value = identifier_expression somewhere (mark delimiter.Semicolon somewhere ∷ us) in (_, IsBody.variable (IsVariableAssignment.assigned h.1 value.1)))))
 
   assignment_from_f : (t : Token) → LeadsTo (λ ts us. (x : Span) × (id x ∷ us ≡ ts)) (assignment_from bound t) (λ a. Some_of (IsBody S))
   unfolding assignment_from

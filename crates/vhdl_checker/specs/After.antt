@@ -22,6 +22,7 @@ use Rattle.vhdl_tree.specs.declared.statements.Scheme.TheVariants as scheme
 unfoldable pub architecture_key : List ℕ → List ℕ → List ℕ
 architecture_key entity architecture = entity ++ 46 ∷ architecture
 
+-- The units of the library are kept as labels with numbers: an entity's is that of its interface, an architecture's 0.
 unfoldable pub unit_number : List Entry → Option ℕ
 unit_number (entry.Label n ∷ entries) = Some n
 unit_number _ = None

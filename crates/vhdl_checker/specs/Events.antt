@@ -27,7 +27,7 @@ pub data Event : Type 0 where
   -- An entity opens a region, its generics and ports are declared in it, and its end closes it.
   Entity : Token → Event
   EndEntity : Token → Option Token → Event
-  -- An architecture, its entity, and whether nothing but attributes stands in it. Its region goes on that of its entity.
+  -- An architecture, its entity, and whether nothing but specifications of the attribute FOREIGN stands in it. Its region goes on that of its entity.
   Architecture : Token → Token → Bool → Event
   EndArchitecture : Token → Option Token → Event
   -- declarations

@@ -75,10 +75,10 @@ fn units_and_fault(
 }
 
 /// Gives the names of a design file their meanings: its units, with what each name denotes, the type of each
-/// expression, what is globally static, and the lines and spellings of the text. They are given exactly where
-/// no static rule is broken. Else the rule is answered whose place comes first in the text, and of several at
-/// one place the one of the least number (12, 13). The tokens of the tree are places of the text, in bytes
-/// from 0.
+/// expression, which indices and slices are globally static, and the lines and spellings of the text. They are
+/// given exactly where no static rule is broken. Else the rule is answered whose place comes first in the text,
+/// and of several at one place the one of the least number (12, 13). The tokens of the tree are places of the
+/// text, in bytes from 0.
 pub fn resolve_names(alloc: Global, text: &[u8], tree: &DesignFile) -> Result<Units, StaticError>
     ensures { Resolved text.now tree.now result }
 {

@@ -1,6 +1,4 @@
 -- Generic and port maps (IEEE Std 1076-2008, clauses 6.5.6 and 6.5.7).
--- ---- which formal an actual is for
--- what the associations before one have used
 use Rattle.std.specs.List.{list_any}
 use Rattle.std.specs.Prelude.{Bool, List, None, Option, Some, [], false, if◌then◌else◌, not, suc, true, zero, ℕ, ◌++◌, ◌+◌, ◌==◌, ◌||◌, ◌∷◌}
 use Rattle.vhdl_rules.specs.Statements.{is_static_signal}
@@ -21,6 +19,9 @@ use Rattle.vhdl_rules.specs.declared.told.FormalTold.TheVariants as formal_told
 use Rattle.vhdl_tree.specs.declared.declarations.Mode.TheVariants as mode
 use Rattle.vhdl_types.specs.declared.fault.Rule.TheVariants as rule
 
+-- ---- which formal an actual is for
+
+-- what the associations before one have used
 pub record Matching : Type 0 where
   pub position : ℕ  -- how many positional ones there were
   pub is_named : Bool  -- whether there was a named one

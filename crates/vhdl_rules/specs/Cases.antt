@@ -1,5 +1,4 @@
 -- Case statements (IEEE Std 1076-2008, clause 10.9).
--- what a case statement can choose by: values of a discrete type, or of an array of characters
 use Rattle.std.specs.List.{flat_map}
 use Rattle.std.specs.Prelude.{Bool, List, None, Option, Some, [], false, filter, if◌then◌else◌, is_some, length, not, true, ◌&&◌, ◌++◌, ◌==◌}
 use Rattle.vhdl_operators.specs.Places.{only}
@@ -15,6 +14,7 @@ use Rattle.vhdl_types.specs.declared.base_type.BaseType.TheVariants as base
 use Rattle.vhdl_typing.specs.declared.told.ChoiceTold.TheVariants as choice_told
 use Rattle.vhdl_types.specs.declared.fault.Rule.TheVariants as rule
 
+-- what a case statement can choose by: values of a discrete type, or of an array of characters
 unfoldable pub is_choosable : BaseType → Bool
 is_choosable base.Time = false
 is_choosable base.IntegerVector = false

@@ -1,6 +1,4 @@
 -- Sequential statements and concurrent assignments (IEEE Std 1076-2008, clauses 10 and 11).
--- ---- targets
--- a signal, or a port that isn't of mode `in`
 use Rattle.std.specs.Char.{to_ascii_lowercase}
 use Rattle.std.specs.List.{flat_map}
 use Rattle.std.specs.Prelude.{Bool, List, None, Option, Some, [], bytes_eq, codes, false, if◌then◌else◌, map, not, true, ℕ, ◌&&◌, ◌++◌, ◌||◌}
@@ -25,6 +23,9 @@ use Rattle.vhdl_typing.specs.declared.told.Denotes.TheVariants as denotes
 use Rattle.vhdl_tree.specs.declared.declarations.Mode.TheVariants as mode
 use Rattle.vhdl_types.specs.declared.fault.Rule.TheVariants as rule
 
+-- ---- targets
+
+-- a signal, or a port that isn't of mode `in`
 unfoldable pub is_driven : Class → Bool
 is_driven class.Signal = true
 is_driven (class.Port mode.Out) = true
@@ -129,7 +130,7 @@ severity_faults text None = []
 
 -- ---- next and exit
 
--- A next or exit stands in a loop, and in one of the label that it names: `missing` is the place of the label or,
--- where it names none, of its word.
+-- A next or exit stands in a loop, and in one of the label that it names: `place` is that of the label or, where it
+-- names none, of its word.
 unfoldable pub jump_faults : Bool → ℕ → Option Told → List Fault
 jump_faults is_in_loop place condition = asked_optional base.Boolean condition ++ break_if (not is_in_loop) (optional_names condition) place rule.NoSuchLoop

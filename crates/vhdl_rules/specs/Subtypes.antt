@@ -1,5 +1,4 @@
 -- Subtype indications, and the ranges of loops (IEEE Std 1076-2008, clauses 5.2.1, 5.3.2 and 6.3).
--- ---- the type's name
 use Rattle.std.specs.Prelude.{Bool, List, None, Option, Some, [], if◌then◌else◌, is_some, not, true, ℕ, ◌&&◌, ◌++◌, ◌∷◌}
 use Rattle.vhdl_operators.specs.Places.{common_discrete}
 use Rattle.vhdl_rules.specs.Values.{asks_if_known}
@@ -19,6 +18,8 @@ use Rattle.vhdl_types.specs.declared.base_type.BaseType.TheVariants as base
 use Rattle.vhdl_typing.specs.declared.told.BoundsTold.TheVariants as bounds_told
 use Rattle.vhdl_types.specs.declared.entry.Entry.TheVariants as entry
 use Rattle.vhdl_types.specs.declared.fault.Rule.TheVariants as rule
+
+-- ---- the type's name
 
 unfoldable pub mark_in : List Entry → Option Mark
 mark_in (entry.Subtype mark ∷ entries) = Some mark

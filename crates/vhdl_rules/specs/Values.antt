@@ -1,5 +1,4 @@
 -- What a place asks of the value that stands there.
--- that it has this type, if it is known which
 use Rattle.std.specs.Prelude.{Bool, List, None, Option, Some, [], ◌++◌}
 use Rattle.vhdl_types.specs.declared.base_type.BaseType.{BaseType}
 use Rattle.vhdl_types.specs.declared.fault.Fault.{Fault}
@@ -7,6 +6,7 @@ use Rattle.vhdl_typing.specs.Faults.{asks, typing_of, with_bounds}
 use Rattle.vhdl_typing.specs.declared.told.Told.{Told}
 use Rattle.vhdl_types.specs.declared.base_type.BaseType.TheVariants as base
 
+-- that it has this type, if it is known which
 unfoldable pub asks_if_known : Option BaseType → Told → List Fault
 asks_if_known (Some t) told = asks t told
 asks_if_known None told = []

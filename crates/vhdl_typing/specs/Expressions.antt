@@ -1,5 +1,4 @@
 -- Operators and aggregates (IEEE Std 1076-2008, clauses 9.2 and 9.3.3).
--- an operator before one operand
 use Rattle.std.specs.List.{flat_map, list_all, list_any}
 use Rattle.std.specs.Prelude.{Bool, List, [], false, if◌then◌else◌, length, map, not, true, ℕ, ◌&&◌, ◌++◌, ◌==◌, ◌||◌, ◌∷◌}
 use Rattle.vhdl_operators.specs.Literals.{aggregates}
@@ -21,6 +20,7 @@ use Rattle.vhdl_typing.specs.declared.told.Form.TheVariants as form
 use Rattle.vhdl_tree.specs.declared.expressions.Operator.TheVariants as operator
 use Rattle.vhdl_types.specs.declared.fault.Rule.TheVariants as rule
 
+-- an operator before one operand
 unfoldable pub unary_told : ℕ → Unary → Told → Told
 unary_told place op told = record {
   place = place;

@@ -1,6 +1,6 @@
 //! A design file whose names have their meanings, as plain data: what each name denotes, the type of each
-//! expression, what is globally static, and the lines and spellings that are needed later (IEEE Std
-//! 1076-2008, clauses 3 to 13). Nothing here refers to the text.
+//! expression, which indices and slices are globally static, and the lines and spellings that are needed
+//! later (IEEE Std 1076-2008, clauses 3 to 13). Nothing here refers to the text.
 #![tactic(auto)]
 
 mod declarations;

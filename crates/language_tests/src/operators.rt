@@ -3,7 +3,7 @@
 use std::test::Fail;
 use vhdl_operators::{
     all_arrays, can_be, can_be_from, common_discrete, compares, fits_alone, has, narrow, of_bits,
-    of_string, only, only_discrete, relates, results, results_from,
+    of_string, only, relates, results, results_from,
 };
 use vhdl_tree::Operator::{
     Add, And, Concatenate, Divide, Equal, Greater, GreaterEqual, Less, LessEqual, Mod, Multiply,
@@ -167,8 +167,6 @@ fn places(rt: HostRuntime) -> Result<(), Fail> {
     assert!(rt; has(ONE, Character));
     assert!(rt; fits_alone(StdUlogic, ONE) && !fits_alone(Own(1), &[Own(0)]));
     assert!(rt; only(&[Time]) == Some(Time) && only(ONE) == None && only(&[]) == None);
-    assert!(rt; only_discrete(&[Time, Own(5), TEXT]) == Some(Own(5)));
-    assert!(rt; only_discrete(&[Integer, Own(5)]) == None);
     let wide = [Own(1), Own(9), Character, Own(4)];
     let shared = common_discrete(rt.alloc(), &wide, &[Own(9), Own(2), Time])?;
     assert!(rt; shared == Some(Own(9)));

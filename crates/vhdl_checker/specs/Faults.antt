@@ -31,8 +31,8 @@ use Rattle.vhdl_tree.specs.declared.statements.Scheme.TheVariants as scheme
 unfoldable pub is_declared : List ℕ → List Named → Bool
 is_declared word names = not (length (own word names) == 0)
 
-unfoldable pub unit_twice : List ℕ → List ℕ → ℕ → Around → List Fault
-unit_twice text word place a = if is_declared word a.library then at place rule.UnitTwice else []
+unfoldable pub unit_twice : List ℕ → ℕ → Around → List Fault
+unit_twice word place a = if is_declared word a.library then at place rule.UnitTwice else []
 
 unfoldable pub entity_missing : List ℕ → ℕ → Around → List Fault
 entity_missing word place a = if is_some (entity_number word a) then [] else at place rule.EntityMissing
@@ -40,7 +40,7 @@ entity_missing word place a = if is_some (entity_number word a) then [] else at 
 unfoldable pub architecture_faults : List ℕ → Token → Token → Around → List Fault
 architecture_faults text name entity a =
     entity_missing (word_in text entity) entity.start a ++
-    unit_twice text (architecture_key (word_in text entity) (word_in text name)) name.start a
+    unit_twice (architecture_key (word_in text entity) (word_in text name)) name.start a
 
 -- ---- statements
 
@@ -107,7 +107,7 @@ instance_faults text file a i = instance_of text file a i (entity_for text i a)
 unfoldable pub faults : List ℕ → List Named → Around → Event → List Fault
 faults text file a (Event.Library tokens) = library_faults text tokens
 faults text file a (Event.Uses u) = use_faults text u
-faults text file a (Event.Entity name) = unit_twice text (word_in text name) name.start a
+faults text file a (Event.Entity name) = unit_twice (word_in text name) name.start a
 faults text file a (Event.EndEntity name end) = end_faults text (Some name) end
 faults text file a (Event.Architecture name entity is_bare) = architecture_faults text name entity a
 faults text file a (Event.EndArchitecture name end) = end_faults text (Some name) end

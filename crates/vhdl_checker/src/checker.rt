@@ -101,13 +101,6 @@ impl<'a> Checker<'a> {
         self.broken.as_slice()
     }
 
-    /// The broken rules so far, in the order of the events.
-    pub fn into_broken(self) -> Items<Fault>
-        ensures { result ≡ self.entry.broken }
-    {
-        self.broken
-    }
-
     // ---- context clauses
 
     /// A library clause (13.2).

@@ -43,12 +43,11 @@ pub fn is_declared(name: &str, region: &Region) -> bool
 #[tactic(auto, unfolding(crate::specs::Faults::unit_twice))]
 fn unit_twice(
     alloc: Global,
-    text: &[u8],
     name: &str,
     place: u32,
     around: &Surroundings,
 ) -> Result<Items<Fault>, AllocError>
-    ensures { IfOk result (λ faults. faults ≡ spec.unit_twice text.now name.now place around.now) }
+    ensures { IfOk result (λ faults. faults ≡ spec.unit_twice name.now place around.now) }
 {
     if is_declared(name, around.library()) {
         at(alloc, place, Rule::UnitTwice)
@@ -64,10 +63,10 @@ pub fn entity_faults(
     name: &Token,
     around: &Surroundings,
 ) -> Result<Items<Fault>, AllocError>
-    ensures { IfOk result (λ faults. faults ≡ spec.unit_twice text.now (word_in text.now name.now) name.now.start around.now) }
+    ensures { IfOk result (λ faults. faults ≡ spec.unit_twice (word_in text.now name.now) name.now.start around.now) }
 {
     let spelled = word(alloc, text, name)?;
-    unit_twice(alloc, text, spelled.as_str(), name.start, around)
+    unit_twice(alloc, spelled.as_str(), name.start, around)
 }
 
 #[tactic(auto, unfolding(crate::specs::Faults::entity_missing))]
@@ -103,7 +102,7 @@ pub fn architecture_faults(
     let missing = entity_missing(alloc, entity_name.as_str(), entity.start, around)?;
     append(
         missing,
-        unit_twice(alloc, text, key.as_str(), name.start, around)?,
+        unit_twice(alloc, key.as_str(), name.start, around)?,
     )
 }
 

@@ -6,12 +6,8 @@ use Rattle.vhdl_tree.specs.declared.expressions.Choice.TheOpen.{Expr-F}
 use Rattle.vhdl_tree.specs.Expressions.{direction_of}
 use Rattle.vhdl_cursor.proofs.Local.{Law, bind_law, choose_law, pure_law, stop_law, look_law}
 use Rattle.vhdl_expressions.specs.Reading as spec
-use Rattle.vhdl_expressions.specs.Reading.{simple_at, simple_within, expression_within, choices_within, name_from_within, name_within, bounds_within, bounds, bounds_after, bounds_by, bounds_alone, Layer}
+use Rattle.vhdl_expressions.specs.Reading.{simple_at, expression_within, choices_within, name_from_within, name_within, bounds_within, bounds, bounds_after, bounds_by, bounds_alone, Layer}
 use Rattle.vhdl_expressions.proofs.Laws as laws
-
-pub simple_bounded : (bound : ℕ) → Law bound (simple_within bound)
-unfolding simple_within
-simple_bounded bound = laws.simple_law bound bound (omega arith)
 
 pub expression_bounded : (bound : ℕ) → Law bound (expression_within bound)
 unfolding expression_within

@@ -15,7 +15,7 @@ use Rattle.vhdl_tree.specs.Expressions.{link_of, direction_of, SimpleWithin, Nam
 use Rattle.vhdl_tree.specs.Ranges.{IsBounds}
 use Rattle.vhdl_cursor.proofs.Sound.{Triple, Sound, bind_t, call_t, pure_t, choose_t, look_t, start_t, before_t, after_t, frame_t, stop_t}
 use Rattle.vhdl_expressions.specs.Reading as spec
-use Rattle.vhdl_expressions.specs.Reading.{Layer, simple_at, simple_within, name_from_within, bounds, bounds_after, bounds_by, bounds_alone, bounds_within}
+use Rattle.vhdl_expressions.specs.Reading.{Layer, simple_at, name_from_within, bounds, bounds_after, bounds_by, bounds_alone, bounds_within}
 use Rattle.vhdl_expressions.proofs.Sounds as sounds
 
 -- the name that an expression is, by one level of it

@@ -15,7 +15,7 @@ use Rattle.vhdl_tree.specs.Ranges.{IsBounds}
 use Rattle.vhdl_cursor.specs.Steps.{Found}
 use Rattle.vhdl_cursor.proofs.Complete.{Reaches, Complete, bind_up, pure_up, choose_hit, choose_miss, look_up, is_up}
 use Rattle.vhdl_expressions.specs.Reading as spec
-use Rattle.vhdl_expressions.specs.Reading.{begins_name, simple_at, bounds_alone, bounds_by, bounds_after, bounds, simple_within, expression_within, choices_within, name_from_within, name_within, bounds_within}
+use Rattle.vhdl_expressions.specs.Reading.{begins_name, simple_at, bounds_alone, bounds_by, bounds_after, bounds, expression_within, choices_within, name_from_within, name_within, bounds_within}
 use Rattle.vhdl_expressions.proofs.Begins.{begins_expression, begins_choice, choice_of_expression, name_begins}
 use Rattle.vhdl_expressions.proofs.Follow.{Ends, EndsChoices, EndsBounds, rank_of_direction, ends_at}
 use Rattle.vhdl_expressions.proofs.Completes.{expression_complete}
@@ -62,10 +62,6 @@ pub choices_start : {ts us : List Token} {all : List Choice} → Choices ts all 
 choices_start r = choices_by r.0 r.1
 
 -- ---- and that they are read
-
-pub simple_reached : (bound : ℕ) → Complete (Ends 3) (simple_within bound) Simple
-unfolding simple_within
-simple_reached bound = record { reads = λ r h. (simple_complete bound bound r.0).reads r.1 h }
 
 pub expression_reached : (bound : ℕ) → Complete (Ends 1) (expression_within bound) Expression
 unfolding expression_within

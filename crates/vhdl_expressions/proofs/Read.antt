@@ -5,18 +5,14 @@ use Rattle.vhdl_tree.specs.declared.expressions.Operator.TheVariants as op
 use Rattle.vhdl_tree.specs.Words.{Span, id}
 use Rattle.vhdl_tree.specs.Lists.{Operations}
 use Rattle.vhdl_tree.specs.Ranges.{IsBounds}
-use Rattle.vhdl_tree.specs.Expressions.{IsRelation, IsExpression, Simple, SimpleWithin, Expression, Choices, NameOf}
+use Rattle.vhdl_tree.specs.Expressions.{IsRelation, IsExpression, SimpleWithin, Expression, Choices, NameOf}
 use Rattle.vhdl_cursor.proofs.Sound.{Triple, Sound, sound_as}
 use Rattle.vhdl_cursor.proofs.Fronts.{LeadsTo, Some_of, Viable, viable_as, after_f}
-use Rattle.vhdl_expressions.specs.Reading.{simple_at, simple_within, expression_within, choices_within, name_from_within, name_within, bounds_within}
+use Rattle.vhdl_expressions.specs.Reading.{simple_at, expression_within, choices_within, name_from_within, name_within, bounds_within}
 use Rattle.vhdl_expressions.proofs.Sounds as sounds
 use Rattle.vhdl_expressions.proofs.NamedBounds as named
 use Rattle.vhdl_expressions.proofs.Fronts as fronts
 use Rattle.vhdl_expressions.proofs.NamedFronts as named_fronts
-
-pub simple_read : (bound : ℕ) → Sound (simple_within bound) Simple
-unfolding simple_within
-simple_read bound = sound_as (λ ts us a h. (bound, h)) (sounds.simple_sound bound bound)
 
 pub expression_read : (bound : ℕ) → Sound (expression_within bound) Expression
 unfolding expression_within
@@ -38,10 +34,6 @@ pub name_from_read : (bound : ℕ) (ts : List Token) (x : Span) → Triple (λ u
 name_from_read bound ts x = named.name_from_sound bound ts x
 
 -- ---- where they stop, some tokens more would have made what they read
-
-pub simple_goes_on : (bound : ℕ) → Viable (simple_within bound) Simple
-unfolding simple_within
-simple_goes_on bound = viable_as (λ ts us a h. (suc bound, h)) (fronts.simple_viable bound bound)
 
 pub expression_goes_on : (bound : ℕ) → Viable (expression_within bound) Expression
 unfolding expression_within

@@ -265,9 +265,6 @@ module _ (turns : ℕ) (simple : Parser Expr) where
 
 -- ---- the same, with one bound on the turns of loops and on the depth of brackets
 
-unfoldable pub simple_within : ℕ → Parser Expr
-simple_within bound = simple_at bound bound
-
 unfoldable pub expression_within : ℕ → Parser Expr
 expression_within bound = expression bound (simple_at bound bound)
 

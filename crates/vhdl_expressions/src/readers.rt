@@ -20,14 +20,6 @@ pub struct Readers {
 }
 
 impl Readers {
-    /// A simple expression: the operands and operators that bind more tightly than a relation.
-    #[tactic(auto, unfolding(crate::specs::Reading::simple_within))]
-    pub fn simple(&self, tokens: &mut Tokens<'_>) -> Result<Expr, Stop>
-        ensures { Reads (spec.simple_within self.now.bound tokens.old) result tokens.new }
-    {
-        simple(self.alloc, self.bound, self.bound, tokens)
-    }
-
     /// An expression.
     #[tactic(auto, unfolding(crate::specs::Reading::expression_within))]
     pub fn expression(&self, tokens: &mut Tokens<'_>) -> Result<Expr, Stop>

@@ -118,7 +118,7 @@ pub architecture_known : (text : List ℕ) (file : List Named) (a : Around) (nam
     → is_some (entity_number (word_in text entity) a) ≡ true
 unfolding faults architecture_faults
 architecture_known text file a name entity is_bare h =
-    entity_there (word_in text entity) entity.start a (empty_left (entity_missing (word_in text entity) entity.start a) (unit_twice text (architecture_key (word_in text entity) (word_in text name)) name.start a) h)
+    entity_there (word_in text entity) entity.start a (empty_left (entity_missing (word_in text entity) entity.start a) (unit_twice (architecture_key (word_in text entity) (word_in text name)) name.start a) h)
 
 -- ---- associations
 

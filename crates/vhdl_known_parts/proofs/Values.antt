@@ -12,6 +12,7 @@ use Rattle.vhdl_meaning.specs.Names.{reference, target_of}
 use Rattle.vhdl_meaning.specs.Settling.{settled}
 use Rattle.vhdl_meaning.specs.declared.candidates.Candidate.{Candidate}
 use Rattle.vhdl_meaning.specs.declared.candidates.Denoted.{Denoted}
+use Rattle.vhdl_operators.specs.Places.{fits_alone}
 use Rattle.vhdl_operators.specs.Sets.{has}
 use Rattle.vhdl_resolving.specs.Values.{denoted_here, optional_at, target_here, value_at}
 use Rattle.vhdl_rules.specs.Values.{asked, asked_optional, asks_if_known, tested, valued}
@@ -27,7 +28,7 @@ use Rattle.vhdl_types.specs.declared.fault.Rule.TheVariants as rule
 -- ---- what a place asks
 
 pub asked_has : (t : BaseType) (told : Told) → told.names ≡ [] → asks t told ≡ [] → has told.types t ≡ true
-unfolding asks
+unfolding asks fits_alone
 asked_has t told names h = from_not (has told.types t) (none_broken (not (has told.types t)) told.names told.place rule.Type names h)
 
 pub no_typing : (told : Told) → typing_of told ≡ [] → told.typing ≡ []

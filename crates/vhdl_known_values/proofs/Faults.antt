@@ -6,6 +6,7 @@ use Rattle.vhdl_known_values.specs.Tells.{Tells}
 use Rattle.vhdl_known_values.proofs.Free.{no_break, own_typing}
 use Rattle.vhdl_meaning.specs.Settling.{settled}
 use Rattle.vhdl_meaning.specs.declared.candidates.Candidate.{Candidate}
+use Rattle.vhdl_operators.specs.Places.{fits_alone}
 use Rattle.vhdl_operators.specs.Sets.{has}
 use Rattle.vhdl_types.specs.declared.base_type.BaseType.{BaseType}
 use Rattle.vhdl_typing.specs.Faults.{asks, typing_of}
@@ -16,7 +17,7 @@ abbrev pub Fine : Told → Type 0
 Fine told = (told.names ≡ []) × (typing_of told ≡ [])
 
 has_asked : (t : BaseType) (told : Told) → told.names ≡ [] → asks t told ≡ [] → has told.types t ≡ true
-unfolding asks
+unfolding asks fits_alone
 has_asked t told names h = not-false (has told.types t) (no_break _ told.names told.place _ names h)
 
 pub asked : (t : BaseType) (told : Told) (c : Candidate) → Tells told c → Fine told → asks t told ≡ [] → known_value (settled c t) ≡ true

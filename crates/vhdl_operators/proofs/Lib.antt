@@ -1,4 +1,3 @@
-pub mod Counts
 pub mod Numbers
 pub mod Members
 pub mod Given

@@ -17,9 +17,6 @@ unfoldable pub only : List BaseType → Option BaseType
 only (t ∷ []) = Some t
 only _ = None
 
-unfoldable pub only_discrete : List BaseType → Option BaseType
-only_discrete types = only (filter is_discrete types)
-
 -- two bounds of a discrete range
 unfoldable pub is_common_discrete : List BaseType → BaseType → Bool
 is_common_discrete types t = is_discrete t && has types t

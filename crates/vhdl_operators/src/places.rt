@@ -1,8 +1,6 @@
 //! What a place asks of the types that an expression there can have.
 
-ghost use Rattle.std.specs.Prelude.{◌≡◌, IfOk, filter, count_by};
-ghost use Rattle.std.specs.List.{find};
-ghost use Rattle.vhdl_types.specs.Types.{is_discrete};
+ghost use Rattle.std.specs.Prelude.{◌≡◌, IfOk, filter};
 ghost use Rattle.vhdl_operators.specs.Places as spec;
 ghost use Rattle.vhdl_operators.specs.Places.{HasOwnNumbers};
 
@@ -30,30 +28,6 @@ pub fn only(types: &[BaseType]) -> Option<BaseType>
         [base] => Some(*base),
         _ => None,
     }
-}
-
-/// The discrete type of a set that has exactly one.
-#[tactic(auto, unfolding(crate::specs::Places::only_discrete), using(crate::proofs::Counts::only_counted, crate::proofs::Counts::not_counted))]
-pub fn only_discrete(types: &[BaseType]) -> Option<BaseType>
-    ensures { result ≡ spec.only_discrete types.now }
-{
-    if discrete_count(types) == 1 {
-        first_discrete(types)
-    } else {
-        None
-    }
-}
-
-fn discrete_count(types: &[BaseType]) -> usize
-    ensures { result ≡ count_by is_discrete types.now }
-{
-    types.iter().filter(|base| base.is_discrete()).count()
-}
-
-fn first_discrete(types: &[BaseType]) -> Option<BaseType>
-    ensures { result ≡ find is_discrete types.now }
-{
-    types.iter().copied().find(|base| base.is_discrete())
 }
 
 /// The discrete type that two sets have in common, where it is exactly one (5.3.2.1, 10.10).

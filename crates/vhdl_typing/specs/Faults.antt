@@ -1,7 +1,6 @@
 -- Where a rule of expressions is tested, and where it isn't.
-use Rattle.std.specs.Prelude.{Bool, List, [], false, if◌then◌else◌, is_some, length, not, true, ℕ, ◌&&◌, ◌++◌, ◌==◌}
-use Rattle.vhdl_operators.specs.Places.{only_discrete}
-use Rattle.vhdl_operators.specs.Sets.{has}
+use Rattle.std.specs.Prelude.{Bool, List, [], false, if◌then◌else◌, length, not, true, ℕ, ◌&&◌, ◌++◌, ◌==◌}
+use Rattle.vhdl_operators.specs.Places.{fits_alone}
 use Rattle.vhdl_types.specs.Faults.{at}
 use Rattle.vhdl_types.specs.declared.base_type.BaseType.{BaseType}
 use Rattle.vhdl_types.specs.declared.fault.Fault.{Fault}
@@ -21,13 +20,9 @@ break_if broken names place rule = if broken && is_known names then at place rul
 
 -- ---- what a place asks of the expression there
 
--- that it has a type
+-- that exactly one of the types that it can have is this one
 unfoldable pub asks : BaseType → Told → List Fault
-asks t told = break_if (not (has told.types t)) told.names told.place rule.Type
-
--- that it has exactly one discrete type
-unfoldable pub asks_discrete : Told → List Fault
-asks_discrete told = break_if (not (is_some (only_discrete told.types))) told.names told.place rule.Type
+asks t told = break_if (not (fits_alone t told.types)) told.names told.place rule.Type
 
 -- Where no bounds are known, an aggregate there has no `others`.
 unfoldable pub has_others : Form → Bool

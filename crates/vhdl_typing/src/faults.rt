@@ -7,7 +7,7 @@ ghost use Rattle.vhdl_typing.specs.Faults as spec;
 use crate::told::{Form, Told};
 use sqlite_items::Items;
 use std::alloc::{AllocError, Global};
-use vhdl_operators::{has, only_discrete};
+use vhdl_operators::fits_alone;
 use vhdl_types::{BaseType, Fault, Rule};
 
 /// The faults of both lists. The second is moved to the end of the first.
@@ -57,16 +57,7 @@ pub fn break_if(
 pub fn asks(alloc: Global, base: BaseType, told: &Told) -> Result<Items<Fault>, AllocError>
     ensures { IfOk result (λ faults. faults ≡ spec.asks base told.now) }
 {
-    let broken = !has(told.types.as_slice(), base);
-    break_if(alloc, broken, told.names.as_slice(), told.place, Rule::Type)
-}
-
-/// The fault of an expression that hasn't exactly one discrete type, where its place asks for that (12.5).
-#[tactic(auto, unfolding(crate::specs::Faults::asks_discrete))]
-pub fn asks_discrete(alloc: Global, told: &Told) -> Result<Items<Fault>, AllocError>
-    ensures { IfOk result (λ faults. faults ≡ spec.asks_discrete told.now) }
-{
-    let broken = only_discrete(told.types.as_slice()).is_none();
+    let broken = !fits_alone(base, told.types.as_slice());
     break_if(alloc, broken, told.names.as_slice(), told.place, Rule::Type)
 }
 

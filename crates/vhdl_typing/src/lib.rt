@@ -16,9 +16,7 @@ mod told;
 mod trees;
 
 pub use expressions::{choice_is_static, is_others};
-pub use faults::{
-    append, asks, asks_discrete, at, break_if, is_known, typing_of, with_bounds, without_bounds,
-};
+pub use faults::{append, asks, at, break_if, is_known, typing_of, with_bounds, without_bounds};
 pub use literals::femtoseconds_in;
 pub use names::{begun, extended, finished, literal_types, value_of};
 pub use ranges::range_name;

@@ -10,7 +10,7 @@ use Rattle.vhdl_known_values.proofs.Literals.{literals_agree}
 use Rattle.vhdl_known_values.proofs.Parts.{parts_begin}
 use Rattle.vhdl_known_values.proofs.Single.{only_agrees}
 use Rattle.vhdl_meaning.specs.Names as meaning
-use Rattle.vhdl_meaning.specs.Names.{candidate_of, is_static_class, reference, target_of}
+use Rattle.vhdl_meaning.specs.Names.{candidate_of, reference, target_of}
 use Rattle.vhdl_meaning.specs.Ranges.{range_of}
 use Rattle.vhdl_meaning.specs.declared.candidates.Candidate.{Candidate}
 use Rattle.vhdl_meaning.specs.declared.candidates.Denoted.{Denoted}
@@ -19,6 +19,7 @@ use Rattle.vhdl_types.specs.Faults.{at}
 use Rattle.vhdl_types.specs.declared.base_type.BaseType.{BaseType}
 use Rattle.vhdl_types.specs.declared.entry.Entry.{Entry}
 use Rattle.vhdl_types.specs.declared.entry.Object.{Object}
+use Rattle.vhdl_typing.specs.Attributes.{is_static_class}
 use Rattle.vhdl_typing.specs.Faults.{break_if}
 use Rattle.vhdl_typing.specs.Names as telling
 use Rattle.vhdl_typing.specs.Names.{finished, literal_types, name_told, value_of}

@@ -11,17 +11,16 @@ use Rattle.vhdl_meaning.specs.declared.candidates.TypeAttribute.{TypeAttribute}
 use Rattle.vhdl_tree.specs.declared.expressions.Direction.{Direction}
 use Rattle.vhdl_types.specs.Types.{element, is_array}
 use Rattle.vhdl_types.specs.declared.base_type.BaseType.{BaseType}
-use Rattle.vhdl_types.specs.declared.entry.Class.{Class}
 use Rattle.vhdl_types.specs.declared.entry.Entry.{Entry}
 use Rattle.vhdl_types.specs.declared.entry.Function.{Function}
 use Rattle.vhdl_types.specs.declared.entry.Object.{Object}
+use Rattle.vhdl_typing.specs.Attributes.{is_static_class}
 use Rattle.vhdl_typing.specs.Names.{literal_types}
 use Rattle.vhdl_units.specs.declared.values.PartValue.{PartValue}
 use Rattle.vhdl_units.specs.declared.values.Reference.{Reference, roll-Reference}
 use Rattle.vhdl_units.specs.declared.values.Value.{Value}
 use Rattle.vhdl_meaning.specs.declared.candidates.AttributeName.TheVariants as name
 use Rattle.vhdl_types.specs.declared.base_type.BaseType.TheVariants as base
-use Rattle.vhdl_types.specs.declared.entry.Class.TheVariants as class
 use Rattle.vhdl_meaning.specs.declared.candidates.Denoted.TheVariants as denoted
 use Rattle.vhdl_types.specs.declared.entry.Entry.TheVariants as entry
 use Rattle.vhdl_types.specs.declared.entry.Function.TheVariants as function
@@ -119,11 +118,6 @@ extended_by text d (p ∷ parts) = extended_by text (extended text d p) parts
 
 unfoldable pub candidate_with : List BaseType → Bool → Open → Candidate
 candidate_with types is_static o = roll-Candidate (record { types = types; is_static = is_static; form = o })
-
-unfoldable pub is_static_class : Class → Bool
-is_static_class class.Constant = true
-is_static_class class.Generic = true
-is_static_class _ = false
 
 unfoldable pub only_value : Value → BaseType → Bool → Candidate
 only_value v t is_static = candidate_with (t ∷ []) is_static (pending.Value v)

@@ -9,8 +9,8 @@ use crate::settling::settle;
 use sqlite_items::{Boxed, Items};
 use std::alloc::{AllocError, Global};
 use vhdl_tree::Direction;
-use vhdl_types::{BaseType, Class, Entry, Function, Object};
-use vhdl_typing::literal_types;
+use vhdl_types::{BaseType, Entry, Function, Object};
+use vhdl_typing::{is_static_class, literal_types};
 use vhdl_units::{PartValue, Reference, Value};
 
 // ---- the identifier
@@ -290,17 +290,6 @@ pub(crate) fn candidate_with(types: Items<BaseType>, is_static: bool, form: Open
         types,
         is_static,
         form,
-    }
-}
-
-#[tactic(auto, unfolding(crate::specs::Names::is_static_class))]
-fn is_static_class(class: Class) -> bool
-    ensures { result ≡ spec.is_static_class class }
-{
-    match class {
-        Class::Constant => true,
-        Class::Generic => true,
-        _ => false,
     }
 }
 

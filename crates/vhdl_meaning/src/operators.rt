@@ -6,7 +6,6 @@ ghost use Rattle.vhdl_meaning.specs.Operators as spec;
 ghost use Rattle.vhdl_meaning.specs.Ranges.{choice_at, choice_is_static};
 ghost use Rattle.vhdl_operators.specs.Literals.{aggregates};
 ghost use Rattle.vhdl_types.specs.declared.base_type.BaseType.TheVariants as base;
-ghost use Rattle.vhdl_typing.specs.Expressions.{is_relation};
 
 use crate::candidates::{Candidate, CandidateItem, CandidateLink, ChoiceCandidate, Open};
 use crate::names::candidate_with;
@@ -16,6 +15,7 @@ use std::alloc::{AllocError, Global};
 use vhdl_operators::{all_arrays, has, narrow, only, results, results_from};
 use vhdl_tree::{Operator, Unary};
 use vhdl_types::BaseType;
+use vhdl_typing::is_relation;
 use vhdl_units::ChoiceValue;
 
 /// An operator before its operand.
@@ -34,21 +34,6 @@ pub(crate) fn unary(
 }
 
 // ---- operators of one precedence
-
-#[tactic(auto, unfolding(vhdl_typing::specs::Expressions::is_relation))]
-fn is_relation(operator: Operator) -> bool
-    ensures { result ≡ is_relation operator }
-{
-    match operator {
-        Operator::Equal
-        | Operator::NotEqual
-        | Operator::Less
-        | Operator::LessEqual
-        | Operator::Greater
-        | Operator::GreaterEqual => true,
-        _ => false,
-    }
-}
 
 #[tactic(auto, unfolding(crate::specs::Operators::met))]
 fn met(base: Option<BaseType>, others: &[BaseType]) -> Option<BaseType>

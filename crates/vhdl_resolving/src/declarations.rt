@@ -15,7 +15,7 @@ use sqlite_items::Items;
 use std::alloc::{AllocError, Global};
 use vhdl_checker::{Surroundings, type_or};
 use vhdl_meaning::range_at;
-use vhdl_rules::mark_in;
+use vhdl_rules::{mark_in, with_index};
 use vhdl_tokens::{Token, span};
 use vhdl_tree::{
     AttributeSpecification, Bounds, Constraint, Expr, Subtype, SubtypeDeclaration, TypeDeclaration,
@@ -99,21 +99,6 @@ pub fn label_here(
 }
 
 // ---- subtypes
-
-#[tactic(auto, unfolding(vhdl_rules::specs::Subtypes::with_index))]
-fn with_index(mark: Option<Mark>) -> Option<Mark>
-    ensures { result ≡ subtypes.with_index mark }
-{
-    match mark {
-        Some(mark) => Some(Mark {
-            number: mark.number,
-            base: mark.base,
-            resolved: mark.resolved,
-            bounded: mark.base.is_array(),
-        }),
-        None => None,
-    }
-}
 
 // With bounds an array type is one that has bounds.
 #[tactic(auto, unfolding(crate::specs::Declarations::narrowed))]

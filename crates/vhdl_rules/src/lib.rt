@@ -19,7 +19,9 @@ pub use statements::{
     jump_faults, sensitivity_faults, severity_faults, signal_assignment_faults,
     variable_assignment_faults, wait_faults,
 };
-pub use subtypes::{indexed, loop_range, loop_type, mark_in, mark_names, ranged, unconstrained};
+pub use subtypes::{
+    indexed, loop_range, loop_type, mark_in, mark_names, ranged, unconstrained, with_index,
+};
 pub use told::{
     ActualTold, AssociationTold, ElementTold, FormalTold, ObjectsTold, SubtypeTold, WaitTold,
 };

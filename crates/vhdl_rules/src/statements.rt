@@ -6,7 +6,6 @@ ghost use Rattle.std.specs.List.{flat_map, list_all};
 ghost use Rattle.vhdl_rules.specs.Values as values_spec;
 ghost use Rattle.vhdl_rules.specs.Statements as spec;
 ghost use Rattle.vhdl_typing.specs.Faults as faults_spec;
-ghost use Rattle.vhdl_typing.specs.Attributes as attributes_spec;
 ghost use Rattle.vhdl_types.specs.declared.fault.Rule.TheVariants as rule;
 
 use crate::order::reversed;
@@ -17,7 +16,9 @@ use std::alloc::{AllocError, Global};
 use vhdl_tokens::{Token, span};
 use vhdl_tree::Mode;
 use vhdl_types::{BaseType, Class, Fault, Rule};
-use vhdl_typing::{Denotes, NameTold, ObjectName, Told, append, at, break_if, is_known};
+use vhdl_typing::{
+    Denotes, NameTold, ObjectName, Told, append, at, break_if, is_known, is_signal_class,
+};
 
 /// Whether `<=` can assign objects of a class: signals, and ports that aren't of mode `in` (10.5.2.1).
 #[tactic(auto, unfolding(crate::specs::Statements::is_driven))]
@@ -184,16 +185,6 @@ pub fn variable_assignment_faults(
     let is_static = is_static_target(&target);
     let target = target_faults(alloc, false, target)?;
     append(target, valued(alloc, base, is_static, value)?)
-}
-
-#[tactic(auto, unfolding(vhdl_typing::specs::Attributes::is_signal_class))]
-fn is_signal_class(class: Class) -> bool
-    ensures { result ≡ attributes_spec.is_signal_class class }
-{
-    match class {
-        Class::Signal | Class::Port(_) => true,
-        _ => false,
-    }
 }
 
 /// Whether what is named is a signal, by a static name (8.1).

@@ -229,7 +229,7 @@ fn index_misfit(alloc: Global, mark: Option<Mark>, place: u32) -> Result<Items<F
 
 /// The subtype with the bounds of an index.
 #[tactic(auto, unfolding(crate::specs::Subtypes::with_index))]
-fn with_index(mark: Option<Mark>) -> Option<Mark>
+pub fn with_index(mark: Option<Mark>) -> Option<Mark>
     ensures { result ≡ spec.with_index mark }
 {
     match mark {

@@ -56,7 +56,7 @@ fn is(word: &[u8], spelling: &str) -> bool
 
 /// Whether objects of a class are signals. Ports are.
 #[tactic(auto, unfolding(crate::specs::Attributes::is_signal_class))]
-pub(crate) fn is_signal_class(class: Class) -> bool
+pub fn is_signal_class(class: Class) -> bool
     ensures { result ≡ spec.is_signal_class class }
 {
     match class {
@@ -78,7 +78,7 @@ pub(crate) fn is_read(class: Class) -> bool
 
 /// Whether objects of a class are globally static as values (9.4.3).
 #[tactic(auto, unfolding(crate::specs::Attributes::is_static_class))]
-pub(crate) fn is_static_class(class: Class) -> bool
+pub fn is_static_class(class: Class) -> bool
     ensures { result ≡ spec.is_static_class class }
 {
     match class {

@@ -57,8 +57,9 @@ pub fn operand(alloc: Global, place: u32, first: Told) -> Result<Told, AllocErro
     })
 }
 
+/// Whether an operator is a relation (9.2.3).
 #[tactic(auto, unfolding(crate::specs::Expressions::is_relation))]
-fn is_relation(operator: Operator) -> bool
+pub fn is_relation(operator: Operator) -> bool
     ensures { result ≡ spec.is_relation operator }
 {
     match operator {

@@ -8,7 +8,7 @@ use Rattle.vhdl_types.specs.declared.entry.Entry.{Entry}
 use Rattle.vhdl_types.specs.declared.entry.Function.{Function}
 use Rattle.vhdl_types.specs.declared.fault.Fault.{Fault}
 use Rattle.vhdl_typing.specs.Attributes.{attribute_of, has_bounds, is_array_type, is_signal}
-use Rattle.vhdl_typing.specs.Names.{attributed, attributed_as, becomes_value, begun, bound_of, called, change_of, declared, denoted, edge_of, element_named, element_of, extended, extended_by, finished, has_no_such, indexed, indexed_as, last_value_of, misfits, name_told, object_attribute, of_type, range_of, slice_named, sliced, sliced_as, takes, type_attribute_of, undeclared, with_argument, with_denoted, with_names, with_typing, wrong_kind}
+use Rattle.vhdl_typing.specs.Names.{attributed, attributed_as, becomes_value, begun, bound_of, called, change_of, declared, denoted, edge_of, element_named, element_of, extended, extended_by, finished, has_no_such, indexed, indexed_as, last_value_of, misfits, name_told, object_attribute, object_attributed, of_type, range_of, slice_named, sliced, sliced_as, takes, type_attributed, undeclared, with_argument, with_denoted, with_names, with_typing, wrong_kind}
 use Rattle.vhdl_typing.specs.Trees.{choice_step, expr_step, item_step, link_step, name_step, part_step, told_name, told_part}
 use Rattle.vhdl_typing.specs.declared.told.Attribute.{Attribute}
 use Rattle.vhdl_typing.specs.declared.told.ChoiceTold.{ChoiceTold}
@@ -26,6 +26,8 @@ use Rattle.vhdl_types.specs.declared.entry.Entry.TheVariants as entry
 use Rattle.vhdl_types.specs.declared.entry.Function.TheVariants as function
 use Rattle.vhdl_typing.specs.declared.told.PartTold.TheVariants as part_told
 use Rattle.vhdl_typing.specs.declared.told.TypeAttribute.TheVariants as type_attribute
+use Rattle.vhdl_units.specs.declared.values.ObjectAttribute.{ObjectAttribute}
+use Rattle.vhdl_units.specs.declared.values.ObjectAttribute.TheVariants as of_object
 use Rattle.vhdl_tree.specs.declared.expressions.Choice.TheFolds.{fold_out-Name}
 
 abbrev pub NeverUnknown : NameTold → Type 0
@@ -113,14 +115,18 @@ last_never : (o : ObjectName) (place : ℕ) (n : NameTold) → NeverUnknown (las
 unfolding last_value_of
 last_never o place n = either_never _ _ _ (value_never _ n) (none_never place n)
 
-object_never : (a : Attribute) (o : ObjectName) (place : ℕ) (n : NameTold) → NeverUnknown (object_attribute a o place n)
+own_never : (a : ObjectAttribute) (o : ObjectName) (place : ℕ) (n : NameTold) → NeverUnknown (object_attribute a o place n)
 unfolding object_attribute
-object_never attribute.Event o place n = change_never o place n
-object_never attribute.Active o place n = change_never o place n
-object_never attribute.LastValue o place n = last_never o place n
-object_never attribute.Bound o place n = either_never (has_bounds o) _ _ (bound_never n) (none_never place n)
+own_never of_object.Event o place n = change_never o place n
+own_never of_object.Active o place n = change_never o place n
+own_never of_object.LastValue o place n = last_never o place n
+own_never _ o place n = either_never (has_bounds o) _ _ (bound_never n) (none_never place n)
+
+object_never : (a : Attribute) (o : ObjectName) (place : ℕ) (n : NameTold) → NeverUnknown (object_attributed a o place n)
+unfolding object_attributed
+object_never (attribute.Object a) o place n = own_never a o place n
 object_never attribute.Range o place n = either_never (has_bounds o) _ _ (range_never n) (none_never place n)
-object_never _ o place n = none_never place n
+object_never (attribute.Type a) o place n = none_never place n
 
 argument_given : (a : TypeAttribute) (t : BaseType) (n : NameTold) → NeverUnknown (with_denoted (denotes.TypeAttribute a t) n)
 unfolding with_denoted
@@ -130,10 +136,9 @@ argument_never : (a : TypeAttribute) (t : BaseType) (place : ℕ) (n : NameTold)
 unfolding with_argument
 argument_never a t place n = either_never _ _ _ (argument_given a t n) (none_never place n)
 
-subtype_never : (a : Attribute) (t : BaseType) (place : ℕ) (n : NameTold) → NeverUnknown (type_attribute_of a t place n)
-unfolding type_attribute_of
-subtype_never attribute.Pos t place n = argument_never type_attribute.Pos t place n
-subtype_never attribute.Val t place n = argument_never type_attribute.Val t place n
+subtype_never : (a : Attribute) (t : BaseType) (place : ℕ) (n : NameTold) → NeverUnknown (type_attributed a t place n)
+unfolding type_attributed
+subtype_never (attribute.Type a) t place n = argument_never a t place n
 subtype_never _ t place n = none_never place n
 
 attributed_never : (x : Denotes) (a : Option Attribute) (place : ℕ) (n : NameTold) → NeverUnknown n → NeverUnknown (attributed_as x a place n)

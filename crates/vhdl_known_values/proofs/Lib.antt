@@ -2,7 +2,6 @@ pub mod Settles
 pub mod Knows
 pub mod Single
 pub mod Literals
-pub mod Attributes
 pub mod Faults
 pub mod Free
 pub mod Parts

@@ -2,17 +2,15 @@
 use Rattle.std.proofs.Common.{◌≡◌, ℕ, Bool, true, false, ◌&&◌, if◌then◌else◌, Option, Some, None, List, [], ◌∷◌, ◌++◌, map, inr, refl, ap, sym, ◌∙◌}
 use Rattle.std.proofs.lemmas.Bool.{and_from, and_parts}
 use Rattle.vhdl_known_values.specs.Known.{all_known, known_part, known_value}
-use Rattle.vhdl_known_values.specs.Names.{Begins, IsOne, IsRange, Means, PartTells, PartsTell, meant_by, ruled, ruled_option}
+use Rattle.vhdl_known_values.specs.Names.{Begins, IsOne, IsRange, Means, PartTells, PartsTell}
 use Rattle.vhdl_known_values.specs.Meanings.{IsObject}
 use Rattle.vhdl_known_values.specs.Tells.{Tells}
-use Rattle.vhdl_known_values.proofs.Attributes.{attribute_same}
 use Rattle.vhdl_known_values.proofs.Faults.{Fine, asked}
 use Rattle.vhdl_known_values.proofs.Free.{both_empty}
 use Rattle.vhdl_known_values.proofs.Knows.{known_at, known_attribute, known_call, known_index, known_parts, known_position, known_slice}
-use Rattle.vhdl_meaning.specs.Attributes.{attribute_of, attribute_type, is_bound}
+use Rattle.vhdl_meaning.specs.Attributes.{attribute_type, is_bound}
 use Rattle.vhdl_meaning.specs.Names as meaning
 use Rattle.vhdl_meaning.specs.Settling.{settled}
-use Rattle.vhdl_meaning.specs.declared.candidates.AttributeName.{AttributeName}
 use Rattle.vhdl_meaning.specs.declared.candidates.Candidate.{Candidate, out-Candidate}
 use Rattle.vhdl_meaning.specs.declared.candidates.Denoted.{Denoted}
 use Rattle.vhdl_meaning.specs.declared.candidates.PartCandidate.{PartCandidate}
@@ -22,9 +20,10 @@ use Rattle.vhdl_types.specs.Faults.{at}
 use Rattle.vhdl_types.specs.Types.{element, is_array, is_enumeration}
 use Rattle.vhdl_types.specs.declared.base_type.BaseType.{BaseType}
 use Rattle.vhdl_types.specs.declared.entry.Function.{Function}
-use Rattle.vhdl_typing.specs.Attributes.{has_bounds, is_array_type, is_signal}
+use Rattle.vhdl_typing.specs.Attributes.{attribute_of, has_bounds, is_array_type, is_signal}
 use Rattle.vhdl_typing.specs.Faults.{asks, typing_of}
 use Rattle.vhdl_typing.specs.Names as typing
+use Rattle.vhdl_typing.specs.declared.told.Attribute.{Attribute}
 use Rattle.vhdl_typing.specs.declared.told.Denotes.{Denotes}
 use Rattle.vhdl_typing.specs.declared.told.NameTold.{NameTold}
 use Rattle.vhdl_typing.specs.declared.told.ObjectName.{ObjectName}
@@ -34,7 +33,7 @@ use Rattle.vhdl_typing.specs.declared.told.TypeAttribute.{TypeAttribute}
 use Rattle.vhdl_units.specs.declared.values.ObjectAttribute.{ObjectAttribute}
 use Rattle.vhdl_units.specs.declared.values.PartValue.{PartValue}
 use Rattle.vhdl_types.specs.declared.base_type.BaseType.TheVariants as base
-use Rattle.vhdl_meaning.specs.declared.candidates.AttributeName.TheVariants as name
+use Rattle.vhdl_typing.specs.declared.told.Attribute.TheVariants as attribute
 use Rattle.vhdl_meaning.specs.declared.candidates.Denoted.TheVariants as denoted
 use Rattle.vhdl_typing.specs.declared.told.Denotes.TheVariants as denotes
 use Rattle.vhdl_types.specs.declared.entry.Function.TheVariants as function
@@ -42,7 +41,6 @@ use Rattle.vhdl_meaning.specs.declared.candidates.PartCandidate.TheVariants as p
 use Rattle.vhdl_typing.specs.declared.told.PartTold.TheVariants as part_told
 use Rattle.vhdl_types.specs.declared.fault.Rule.TheVariants as rule
 use Rattle.vhdl_typing.specs.declared.told.TypeAttribute.TheVariants as type_attribute
-use Rattle.vhdl_meaning.specs.declared.candidates.TypeAttribute.TheVariants as meant_attribute
 use Rattle.vhdl_units.specs.declared.values.ObjectAttribute.TheVariants as object_attribute
 use Rattle.vhdl_units.specs.declared.values.PartValue.TheVariants as part
 use Rattle.vhdl_units.specs.declared.values.Value.TheVariants as value
@@ -156,7 +154,7 @@ called_begins function.Now told n c d tells took = wrong_begins n (meaning.index
 
 of_type_begins : (a : TypeAttribute) (u : BaseType) (told : Told) (n : NameTold) (c : Candidate) (d : Denoted) → Tells told c → Took (denotes.TypeAttribute a u) n (Fine told) d
     → Begins (typing.of_type a u told n) (meaning.indexed d c)
-unfolding typing.of_type typing.becomes_value typing.with_typing meaning.indexed meaning.of_type meant_by
+unfolding typing.of_type typing.becomes_value typing.with_typing meaning.indexed meaning.of_type
 of_type_begins type_attribute.Pos u told n c d tells took = λ names typed fits.
     let ts = both_empty n.typing (asks u told) typed in
     let t = took names ts.0 fits in
@@ -248,13 +246,13 @@ sliced_begins n low high left direction right d from to h =
 -- ---- ' id and ' range
 
 attribute_is : (a : ObjectAttribute) (o : ObjectName) (d : Denoted) (types : List BaseType) (h : IsObject o d) → types ≡ attribute_type a h.base ∷ []
-    → IsOne types (meaning.attributed d (Some (name.Object a)))
+    → IsOne types (meaning.attributed d (Some (attribute.Object a)))
 unfolding meaning.attributed meaning.object_attributed
 attribute_is a o d types h typed = record {
   type = attribute_type a h.base;
   value = value.Attribute (meaning.reference o.object h.parts h.base) a;
   is_static = is_bound a;
-  is = ap (λ x. meaning.attributed x (Some (name.Object a))) h.is;
+  is = ap (λ x. meaning.attributed x (Some (attribute.Object a))) h.is;
   typed = typed;
   known = known_attribute (meaning.reference o.object h.parts h.base) a ∙ (known_parts o.object h.parts h.base ∙ h.known);
 }
@@ -264,72 +262,67 @@ abbrev Was : Denotes → NameTold → Denoted → Type 0
 Was x n d = n.names ≡ [] → n.typing ≡ [] → n.is_misfit ≡ false → Means x n.types d
 
 change_begins : (a : ObjectAttribute) (o : ObjectName) (place : ℕ) (n : NameTold) (d : Denoted) → ((t : BaseType) → attribute_type a t ≡ base.Boolean) → Was (denotes.Object o) n d
-    → Begins (typing.change_of o place n) (meaning.attributed d (Some (name.Object a)))
+    → Begins (typing.change_of o place n) (meaning.attributed d (Some (attribute.Object a)))
 unfolding typing.change_of typing.becomes_value
-change_begins a o place n d gives was = or_no_such (is_signal o) (typing.becomes_value (base.Boolean ∷ []) n) place n (meaning.attributed d (Some (name.Object a)))
+change_begins a o place n d gives was = or_no_such (is_signal o) (typing.becomes_value (base.Boolean ∷ []) n) place n (meaning.attributed d (Some (attribute.Object a)))
     (λ names typed fits. let h = was names typed fits in inr (attribute_is a o d (base.Boolean ∷ []) h (ap (λ t. t ∷ []) (sym (gives h.base)))))
 
 last_begins : (o : ObjectName) (place : ℕ) (n : NameTold) (d : Denoted) → Was (denotes.Object o) n d
-    → Begins (typing.last_value_of o place n) (meaning.attributed d (Some (name.Object object_attribute.LastValue)))
+    → Begins (typing.last_value_of o place n) (meaning.attributed d (Some (attribute.Object object_attribute.LastValue)))
 unfolding typing.last_value_of typing.becomes_value typing.option_types attribute_type
-last_begins o place n d was = or_no_such _ (typing.becomes_value (typing.option_types o.base) n) place n (meaning.attributed d (Some (name.Object object_attribute.LastValue)))
+last_begins o place n d was = or_no_such _ (typing.becomes_value (typing.option_types o.base) n) place n (meaning.attributed d (Some (attribute.Object object_attribute.LastValue)))
     (λ names typed fits. let h = was names typed fits in inr (attribute_is object_attribute.LastValue o d (typing.option_types o.base) h (ap typing.option_types h.typed)))
 
 bound_begins : (a : ObjectAttribute) (o : ObjectName) (place : ℕ) (n : NameTold) (d : Denoted) → ((t : BaseType) → attribute_type a t ≡ base.Integer) → Was (denotes.Object o) n d
-    → Begins (if has_bounds o then typing.bound_of n else typing.has_no_such place n) (meaning.attributed d (Some (name.Object a)))
+    → Begins (if has_bounds o then typing.bound_of n else typing.has_no_such place n) (meaning.attributed d (Some (attribute.Object a)))
 unfolding typing.bound_of
-bound_begins a o place n d gives was = or_no_such (has_bounds o) (typing.bound_of n) place n (meaning.attributed d (Some (name.Object a)))
+bound_begins a o place n d gives was = or_no_such (has_bounds o) (typing.bound_of n) place n (meaning.attributed d (Some (attribute.Object a)))
     (λ names typed fits. let h = was names typed fits in inr (attribute_is a o d (base.Integer ∷ []) h (ap (λ t. t ∷ []) (sym (gives h.base)))))
 
-range_is : (o : ObjectName) (d : Denoted) → IsObject o d → IsRange (meaning.attributed d (Some name.Range))
+range_is : (o : ObjectName) (d : Denoted) → IsObject o d → IsRange (meaning.attributed d (Some attribute.Range))
 unfolding meaning.attributed meaning.object_attributed
 range_is o d h = record {
   reference = meaning.reference o.object h.parts h.base;
-  is = ap (λ x. meaning.attributed x (Some name.Range)) h.is;
+  is = ap (λ x. meaning.attributed x (Some attribute.Range)) h.is;
   known = known_parts o.object h.parts h.base ∙ h.known;
 }
 
 range_begins : (o : ObjectName) (place : ℕ) (n : NameTold) (d : Denoted) → Was (denotes.Object o) n d
-    → Begins (if has_bounds o then typing.range_of n else typing.has_no_such place n) (meaning.attributed d (Some name.Range))
+    → Begins (if has_bounds o then typing.range_of n else typing.has_no_such place n) (meaning.attributed d (Some attribute.Range))
 unfolding typing.range_of
-range_begins o place n d was = or_no_such (has_bounds o) (typing.range_of n) place n (meaning.attributed d (Some name.Range))
+range_begins o place n d was = or_no_such (has_bounds o) (typing.range_of n) place n (meaning.attributed d (Some attribute.Range))
     (λ names typed fits. range_is o d (was names typed fits))
 
-object_begins : (a : AttributeName) (o : ObjectName) (place : ℕ) (n : NameTold) (d : Denoted) → Was (denotes.Object o) n d
-    → Begins (typing.object_attribute (ruled a) o place n) (meaning.attributed d (Some a))
-unfolding typing.object_attribute ruled attribute_type
-object_begins (name.Object object_attribute.Event) o place n d was = change_begins object_attribute.Event o place n d (λ t. refl) was
-object_begins (name.Object object_attribute.Active) o place n d was = change_begins object_attribute.Active o place n d (λ t. refl) was
-object_begins (name.Object object_attribute.LastValue) o place n d was = last_begins o place n d was
-object_begins (name.Object object_attribute.Left) o place n d was = bound_begins object_attribute.Left o place n d (λ t. refl) was
-object_begins (name.Object object_attribute.Right) o place n d was = bound_begins object_attribute.Right o place n d (λ t. refl) was
-object_begins (name.Object object_attribute.High) o place n d was = bound_begins object_attribute.High o place n d (λ t. refl) was
-object_begins (name.Object object_attribute.Low) o place n d was = bound_begins object_attribute.Low o place n d (λ t. refl) was
-object_begins (name.Object object_attribute.Length) o place n d was = bound_begins object_attribute.Length o place n d (λ t. refl) was
-object_begins name.Range o place n d was = range_begins o place n d was
-object_begins (name.Type meant_attribute.Pos) o place n d was = no_such_begins place n _
-object_begins (name.Type meant_attribute.Val) o place n d was = no_such_begins place n _
+own_begins : (a : ObjectAttribute) (o : ObjectName) (place : ℕ) (n : NameTold) (d : Denoted) → Was (denotes.Object o) n d
+    → Begins (typing.object_attribute a o place n) (meaning.attributed d (Some (attribute.Object a)))
+unfolding typing.object_attribute attribute_type
+own_begins object_attribute.Event o place n d was = change_begins object_attribute.Event o place n d (λ t. refl) was
+own_begins object_attribute.Active o place n d was = change_begins object_attribute.Active o place n d (λ t. refl) was
+own_begins object_attribute.LastValue o place n d was = last_begins o place n d was
+own_begins object_attribute.Left o place n d was = bound_begins object_attribute.Left o place n d (λ t. refl) was
+own_begins object_attribute.Right o place n d was = bound_begins object_attribute.Right o place n d (λ t. refl) was
+own_begins object_attribute.High o place n d was = bound_begins object_attribute.High o place n d (λ t. refl) was
+own_begins object_attribute.Low o place n d was = bound_begins object_attribute.Low o place n d (λ t. refl) was
+own_begins object_attribute.Length o place n d was = bound_begins object_attribute.Length o place n d (λ t. refl) was
 
-type_begins : (a : AttributeName) (t : BaseType) (place : ℕ) (n : NameTold) (d : Denoted) → (n.names ≡ [] → n.typing ≡ [] → n.is_misfit ≡ false → d ≡ denoted.Subtype t)
-    → Begins (typing.type_attribute_of (ruled a) t place n) (meaning.attributed d (Some a))
-unfolding typing.type_attribute_of typing.with_argument typing.with_denoted ruled meant_by meaning.attributed meaning.type_attributed
-type_begins (name.Type meant_attribute.Pos) t place n d was = or_no_such (is_enumeration t) (typing.with_denoted (denotes.TypeAttribute type_attribute.Pos t) n) place n _
-    (λ names typed fits. ap (λ x. meaning.attributed x (Some (name.Type meant_attribute.Pos))) (was names typed fits))
-type_begins (name.Type meant_attribute.Val) t place n d was = or_no_such (is_enumeration t) (typing.with_denoted (denotes.TypeAttribute type_attribute.Val t) n) place n _
-    (λ names typed fits. ap (λ x. meaning.attributed x (Some (name.Type meant_attribute.Val))) (was names typed fits))
-type_begins name.Range t place n d was = no_such_begins place n _
-type_begins (name.Object object_attribute.Event) t place n d was = no_such_begins place n _
-type_begins (name.Object object_attribute.Active) t place n d was = no_such_begins place n _
-type_begins (name.Object object_attribute.LastValue) t place n d was = no_such_begins place n _
-type_begins (name.Object object_attribute.Left) t place n d was = no_such_begins place n _
-type_begins (name.Object object_attribute.Right) t place n d was = no_such_begins place n _
-type_begins (name.Object object_attribute.High) t place n d was = no_such_begins place n _
-type_begins (name.Object object_attribute.Low) t place n d was = no_such_begins place n _
-type_begins (name.Object object_attribute.Length) t place n d was = no_such_begins place n _
+object_begins : (a : Attribute) (o : ObjectName) (place : ℕ) (n : NameTold) (d : Denoted) → Was (denotes.Object o) n d
+    → Begins (typing.object_attributed a o place n) (meaning.attributed d (Some a))
+unfolding typing.object_attributed
+object_begins (attribute.Object a) o place n d was = own_begins a o place n d was
+object_begins attribute.Range o place n d was = range_begins o place n d was
+object_begins (attribute.Type a) o place n d was = no_such_begins place n _
 
-attributed_as_begins : (x : Denotes) (a : Option AttributeName) (place : ℕ) (n : NameTold) (d : Denoted) → Was x n d
-    → Begins (typing.attributed_as x (ruled_option a) place n) (meaning.attributed d a)
-unfolding typing.attributed_as ruled_option
+type_begins : (a : Attribute) (t : BaseType) (place : ℕ) (n : NameTold) (d : Denoted) → (n.names ≡ [] → n.typing ≡ [] → n.is_misfit ≡ false → d ≡ denoted.Subtype t)
+    → Begins (typing.type_attributed a t place n) (meaning.attributed d (Some a))
+unfolding typing.type_attributed typing.with_argument typing.with_denoted meaning.attributed meaning.type_attributed
+type_begins (attribute.Type a) t place n d was = or_no_such (is_enumeration t) (typing.with_denoted (denotes.TypeAttribute a t) n) place n _
+    (λ names typed fits. ap (λ x. meaning.attributed x (Some (attribute.Type a))) (was names typed fits))
+type_begins attribute.Range t place n d was = no_such_begins place n _
+type_begins (attribute.Object a) t place n d was = no_such_begins place n _
+
+attributed_as_begins : (x : Denotes) (a : Option Attribute) (place : ℕ) (n : NameTold) (d : Denoted) → Was x n d
+    → Begins (typing.attributed_as x a place n) (meaning.attributed d a)
+unfolding typing.attributed_as
 attributed_as_begins denotes.Unknown (Some a) place n d was = λ names typed fits. absurd (was names typed fits)
 attributed_as_begins denotes.Unknown None place n d was = λ names typed fits. absurd (was names typed fits)
 attributed_as_begins (denotes.Object o) (Some a) place n d was = object_begins a o place n d was
@@ -339,7 +332,7 @@ attributed_as_begins _ None place n d was = no_such_begins place n _
 
 attributed_begins : (text : List ℕ) (n : NameTold) (word : Token) (d : Denoted) → Begins n d → Begins (typing.attributed text n word) (meaning.attributed d (attribute_of text word))
 unfolding typing.attributed
-attributed_begins text n word d h = rw (attribute_same text word) (attributed_as_begins n.denotes (attribute_of text word) word.start n d h)
+attributed_begins text n word d h = attributed_as_begins n.denotes (attribute_of text word) word.start n d h
 
 -- ---- all that follows
 

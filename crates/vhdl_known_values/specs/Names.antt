@@ -1,53 +1,24 @@
 -- What a name tells and what it denotes: where no rule is broken in it, the two agree (IEEE Std 1076-2008, clauses 8 and 12).
 use Rattle.std.specs.Prelude.{Bool, List, None, Option, Some, [], false, true, ◌≡◌, ◌⊎◌, ◌∷◌}
-use Rattle.vhdl_meaning.specs.declared.candidates.AttributeName.{AttributeName}
 use Rattle.vhdl_meaning.specs.declared.candidates.Denoted.{Denoted}
 use Rattle.vhdl_meaning.specs.declared.candidates.PartCandidate.{PartCandidate}
-use Rattle.vhdl_meaning.specs.declared.candidates.TypeAttribute as meant
 use Rattle.vhdl_types.specs.declared.base_type.BaseType.{BaseType}
 use Rattle.vhdl_types.specs.declared.entry.Entry.{Entry}
 use Rattle.vhdl_typing.specs.Names.{literal_types}
-use Rattle.vhdl_typing.specs.declared.told.Attribute.{Attribute}
 use Rattle.vhdl_typing.specs.declared.told.Denotes.{Denotes}
 use Rattle.vhdl_typing.specs.declared.told.NameTold.{NameTold}
 use Rattle.vhdl_typing.specs.declared.told.PartTold.{PartTold}
-use Rattle.vhdl_typing.specs.declared.told.TypeAttribute.{TypeAttribute}
 use Rattle.vhdl_units.specs.declared.values.Reference.{Reference}
 use Rattle.vhdl_units.specs.declared.values.Value.{Value}
 use Rattle.vhdl_known_values.specs.Known.{known_reference, known_value}
 use Rattle.vhdl_known_values.specs.Meanings.{IsObject}
 use Rattle.vhdl_known_values.specs.Tells.{Tells}
-use Rattle.vhdl_meaning.specs.declared.candidates.AttributeName.TheVariants as name
 use Rattle.vhdl_types.specs.declared.base_type.BaseType.TheVariants as base
 use Rattle.vhdl_meaning.specs.declared.candidates.Denoted.TheVariants as denoted
 use Rattle.vhdl_typing.specs.declared.told.Denotes.TheVariants as denotes
 use Rattle.vhdl_meaning.specs.declared.candidates.PartCandidate.TheVariants as part
 use Rattle.vhdl_typing.specs.declared.told.PartTold.TheVariants as part_told
-use Rattle.vhdl_typing.specs.declared.told.Attribute.TheVariants as attribute
-use Rattle.vhdl_typing.specs.declared.told.TypeAttribute.TheVariants as type_attribute
-use Rattle.vhdl_meaning.specs.declared.candidates.TypeAttribute.TheVariants as meant_attribute
-use Rattle.vhdl_units.specs.declared.values.ObjectAttribute.TheVariants as object_attribute
 use Rattle.vhdl_units.specs.declared.values.Value.TheVariants as value
-
--- ---- attributes
-
-unfoldable pub meant_by : TypeAttribute → meant.TypeAttribute
-meant_by type_attribute.Pos = meant_attribute.Pos
-meant_by type_attribute.Val = meant_attribute.Val
-
--- how the rules see an attribute
-unfoldable pub ruled : AttributeName → Attribute
-ruled (name.Object object_attribute.Event) = attribute.Event
-ruled (name.Object object_attribute.Active) = attribute.Active
-ruled (name.Object object_attribute.LastValue) = attribute.LastValue
-ruled (name.Object _) = attribute.Bound
-ruled name.Range = attribute.Range
-ruled (name.Type meant_attribute.Pos) = attribute.Pos
-ruled (name.Type meant_attribute.Val) = attribute.Val
-
-unfoldable pub ruled_option : Option AttributeName → Option Attribute
-ruled_option (Some a) = Some (ruled a)
-ruled_option None = None
 
 -- ---- what is denoted
 
@@ -79,7 +50,7 @@ Means denotes.Value types d = IsLiterals types d ⊎ IsOne types d
 Means denotes.Now types d = d ≡ denoted.Value value.Now base.Time false
 Means (denotes.Subtype mark) types d = d ≡ denoted.Subtype mark.base
 Means (denotes.Function f) types d = d ≡ denoted.Function f
-Means (denotes.TypeAttribute a t) types d = d ≡ denoted.TypeAttribute (meant_by a) t
+Means (denotes.TypeAttribute a t) types d = d ≡ denoted.TypeAttribute a t
 Means denotes.Range types d = IsRange d
 Means _ types d = Unit {0}
 

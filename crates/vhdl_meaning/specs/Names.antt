@@ -1,25 +1,24 @@
 -- What names denote (IEEE Std 1076-2008, clauses 8 and 12): an identifier, and part by part what follows it.
 use Rattle.std.specs.Prelude.{Bool, List, None, Option, Some, [], false, true, ℕ, ◌&&◌, ◌++◌, ◌∷◌}
-use Rattle.vhdl_meaning.specs.Attributes.{attribute_of, attribute_type, is_bound}
+use Rattle.vhdl_meaning.specs.Attributes.{attribute_type, is_bound}
 use Rattle.vhdl_meaning.specs.Settling.{settled}
-use Rattle.vhdl_meaning.specs.declared.candidates.AttributeName.{AttributeName}
 use Rattle.vhdl_meaning.specs.declared.candidates.Candidate.{Candidate, out-Candidate, roll-Candidate}
 use Rattle.vhdl_meaning.specs.declared.candidates.Denoted.{Denoted}
 use Rattle.vhdl_meaning.specs.declared.candidates.Open.{Open}
 use Rattle.vhdl_meaning.specs.declared.candidates.PartCandidate.{PartCandidate}
-use Rattle.vhdl_meaning.specs.declared.candidates.TypeAttribute.{TypeAttribute}
 use Rattle.vhdl_tree.specs.declared.expressions.Direction.{Direction}
 use Rattle.vhdl_types.specs.Types.{element, is_array}
 use Rattle.vhdl_types.specs.declared.base_type.BaseType.{BaseType}
 use Rattle.vhdl_types.specs.declared.entry.Entry.{Entry}
 use Rattle.vhdl_types.specs.declared.entry.Function.{Function}
 use Rattle.vhdl_types.specs.declared.entry.Object.{Object}
-use Rattle.vhdl_typing.specs.Attributes.{is_static_class}
+use Rattle.vhdl_typing.specs.Attributes.{attribute_of, is_static_class}
 use Rattle.vhdl_typing.specs.Names.{literal_types}
+use Rattle.vhdl_typing.specs.declared.told.Attribute.{Attribute}
+use Rattle.vhdl_typing.specs.declared.told.TypeAttribute.{TypeAttribute}
 use Rattle.vhdl_units.specs.declared.values.PartValue.{PartValue}
 use Rattle.vhdl_units.specs.declared.values.Reference.{Reference, roll-Reference}
 use Rattle.vhdl_units.specs.declared.values.Value.{Value}
-use Rattle.vhdl_meaning.specs.declared.candidates.AttributeName.TheVariants as name
 use Rattle.vhdl_types.specs.declared.base_type.BaseType.TheVariants as base
 use Rattle.vhdl_meaning.specs.declared.candidates.Denoted.TheVariants as denoted
 use Rattle.vhdl_types.specs.declared.entry.Entry.TheVariants as entry
@@ -27,8 +26,9 @@ use Rattle.vhdl_types.specs.declared.entry.Function.TheVariants as function
 use Rattle.vhdl_meaning.specs.declared.candidates.Open.TheVariants as pending
 use Rattle.vhdl_units.specs.declared.values.PartValue.TheVariants as part
 use Rattle.vhdl_meaning.specs.declared.candidates.PartCandidate.TheVariants as part_candidate
-use Rattle.vhdl_meaning.specs.declared.candidates.TypeAttribute.TheVariants as type_attribute
 use Rattle.vhdl_units.specs.declared.values.Value.TheVariants as value
+use Rattle.vhdl_typing.specs.declared.told.Attribute.TheVariants as attribute
+use Rattle.vhdl_typing.specs.declared.told.TypeAttribute.TheVariants as type_attribute
 
 -- ---- the identifier
 
@@ -91,16 +91,16 @@ sliced (denoted.Object o parts t is_static) are_static p = slice_denoted (is_arr
 sliced _ are_static p = denoted.Unknown
 
 -- ' id and ' range
-unfoldable pub object_attributed : AttributeName → Object → List PartValue → BaseType → Denoted
-object_attributed (name.Object a) o parts t = denoted.Value (value.Attribute (reference o parts t) a) (attribute_type a t) (is_bound a)
-object_attributed name.Range o parts t = denoted.Range (reference o parts t)
-object_attributed (name.Type a) o parts t = denoted.Unknown
+unfoldable pub object_attributed : Attribute → Object → List PartValue → BaseType → Denoted
+object_attributed (attribute.Object a) o parts t = denoted.Value (value.Attribute (reference o parts t) a) (attribute_type a t) (is_bound a)
+object_attributed attribute.Range o parts t = denoted.Range (reference o parts t)
+object_attributed (attribute.Type a) o parts t = denoted.Unknown
 
-unfoldable pub type_attributed : AttributeName → BaseType → Denoted
-type_attributed (name.Type a) t = denoted.TypeAttribute a t
+unfoldable pub type_attributed : Attribute → BaseType → Denoted
+type_attributed (attribute.Type a) t = denoted.TypeAttribute a t
 type_attributed _ t = denoted.Unknown
 
-unfoldable pub attributed : Denoted → Option AttributeName → Denoted
+unfoldable pub attributed : Denoted → Option Attribute → Denoted
 attributed (denoted.Object o parts t is_static) (Some a) = object_attributed a o parts t
 attributed (denoted.Subtype t) (Some a) = type_attributed a t
 attributed _ a = denoted.Unknown

@@ -4,7 +4,8 @@ use sqlite_items::{Boxed, Items};
 use vhdl_tokens::Token;
 use vhdl_tree::{Direction, Operator, Unary};
 use vhdl_types::{BaseType, Entry, Function, Object};
-use vhdl_units::{ChoiceValue, ObjectAttribute, PartValue, Reference, Value};
+use vhdl_typing::TypeAttribute;
+use vhdl_units::{ChoiceValue, PartValue, Reference, Value};
 
 /// An expression before its place says which of its types is asked.
 #[cycle(candidate)]
@@ -67,21 +68,6 @@ pub enum PartCandidate {
     Slice(Candidate, Direction, Candidate),
     /// The word after the apostrophe.
     Attribute(Token),
-}
-
-/// An attribute of an enumeration type that takes an argument (16.2).
-#[derive(Clone, Copy, Debug, PartialEq, Eq)]
-pub enum TypeAttribute {
-    Pos,
-    Val,
-}
-
-/// An attribute (16.2).
-#[derive(Clone, Copy, Debug, PartialEq, Eq)]
-pub enum AttributeName {
-    Object(ObjectAttribute),
-    Range,
-    Type(TypeAttribute),
 }
 
 /// What a name denotes.

@@ -13,8 +13,8 @@ mod settling;
 mod trees;
 
 pub use candidates::{
-    AttributeName, Candidate, CandidateItem, CandidateLink, ChoiceCandidate, Denoted, Open,
-    PartCandidate, RangeCandidate, TypeAttribute,
+    Candidate, CandidateItem, CandidateLink, ChoiceCandidate, Denoted, Open, PartCandidate,
+    RangeCandidate,
 };
 pub use names::{candidate_of, target_of};
 pub use ranges::{choice_at, common_type, range_at};

@@ -3,14 +3,14 @@
 ghost use Rattle.std.specs.Prelude.{◌≡◌, IfOk};
 ghost use Rattle.vhdl_meaning.specs.Names as spec;
 
-use crate::attributes::{attribute_of, attribute_type, is_bound};
-use crate::candidates::{AttributeName, Candidate, Denoted, Open, PartCandidate, TypeAttribute};
+use crate::attributes::{attribute_type, is_bound};
+use crate::candidates::{Candidate, Denoted, Open, PartCandidate};
 use crate::settling::settle;
 use sqlite_items::{Boxed, Items};
 use std::alloc::{AllocError, Global};
 use vhdl_tree::Direction;
 use vhdl_types::{BaseType, Entry, Function, Object};
-use vhdl_typing::{is_static_class, literal_types};
+use vhdl_typing::{Attribute, TypeAttribute, attribute_of, is_static_class, literal_types};
 use vhdl_units::{PartValue, Reference, Value};
 
 // ---- the identifier
@@ -212,7 +212,7 @@ fn sliced(denoted: Denoted, are_static: bool, part: PartValue) -> Result<Denoted
 
 #[tactic(auto, unfolding(crate::specs::Names::object_attributed))]
 fn object_attributed(
-    attribute: AttributeName,
+    attribute: Attribute,
     object: Object,
     parts: Items<PartValue>,
     base: BaseType,
@@ -220,7 +220,7 @@ fn object_attributed(
     ensures { result ≡ spec.object_attributed attribute object parts base }
 {
     match attribute {
-        AttributeName::Object(attribute) => {
+        Attribute::Object(attribute) => {
             let reference = reference(object, parts, base);
             Denoted::Value(
                 Value::Attribute(reference, attribute),
@@ -228,23 +228,23 @@ fn object_attributed(
                 is_bound(attribute),
             )
         }
-        AttributeName::Range => Denoted::Range(reference(object, parts, base)),
-        AttributeName::Type(_) => Denoted::Unknown,
+        Attribute::Range => Denoted::Range(reference(object, parts, base)),
+        Attribute::Type(_) => Denoted::Unknown,
     }
 }
 
 #[tactic(auto, unfolding(crate::specs::Names::type_attributed))]
-fn type_attributed(attribute: AttributeName, base: BaseType) -> Denoted
+fn type_attributed(attribute: Attribute, base: BaseType) -> Denoted
     ensures { result ≡ spec.type_attributed attribute base }
 {
     match attribute {
-        AttributeName::Type(attribute) => Denoted::TypeAttribute(attribute, base),
+        Attribute::Type(attribute) => Denoted::TypeAttribute(attribute, base),
         _ => Denoted::Unknown,
     }
 }
 
 #[tactic(auto, unfolding(crate::specs::Names::attributed))]
-fn attributed(denoted: Denoted, attribute: Option<AttributeName>) -> Denoted
+fn attributed(denoted: Denoted, attribute: Option<Attribute>) -> Denoted
     ensures { result ≡ spec.attributed denoted attribute }
 {
     match attribute {
@@ -276,7 +276,7 @@ pub(crate) fn extended(
             let part = slice_part(alloc, left, direction, right)?;
             sliced(denoted, are_static, part)
         }
-        PartCandidate::Attribute(word) => Ok(attributed(denoted, attribute_of(text, &word))),
+        PartCandidate::Attribute(word) => Ok(attributed(denoted, attribute_of(text, word))),
     }
 }
 

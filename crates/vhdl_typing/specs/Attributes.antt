@@ -10,21 +10,23 @@ use Rattle.vhdl_typing.specs.declared.told.Attribute.{Attribute}
 use Rattle.vhdl_typing.specs.declared.told.ObjectName.{ObjectName}
 use Rattle.vhdl_typing.specs.declared.told.Attribute.TheVariants as attribute
 use Rattle.vhdl_types.specs.declared.entry.Class.TheVariants as class
+use Rattle.vhdl_typing.specs.declared.told.TypeAttribute.TheVariants as type_attribute
+use Rattle.vhdl_units.specs.declared.values.ObjectAttribute.TheVariants as of_object
 
 -- the attribute that a word names, in lower case
 unfoldable pub attribute_named : List ℕ → Option Attribute
 attribute_named word =
-    if bytes_eq word (codes "event") then Some attribute.Event else
-    if bytes_eq word (codes "active") then Some attribute.Active else
-    if bytes_eq word (codes "last_value") then Some attribute.LastValue else
-    if bytes_eq word (codes "left") then Some attribute.Bound else
-    if bytes_eq word (codes "right") then Some attribute.Bound else
-    if bytes_eq word (codes "high") then Some attribute.Bound else
-    if bytes_eq word (codes "low") then Some attribute.Bound else
-    if bytes_eq word (codes "length") then Some attribute.Bound else
+    if bytes_eq word (codes "event") then Some (attribute.Object of_object.Event) else
+    if bytes_eq word (codes "active") then Some (attribute.Object of_object.Active) else
+    if bytes_eq word (codes "last_value") then Some (attribute.Object of_object.LastValue) else
+    if bytes_eq word (codes "left") then Some (attribute.Object of_object.Left) else
+    if bytes_eq word (codes "right") then Some (attribute.Object of_object.Right) else
+    if bytes_eq word (codes "high") then Some (attribute.Object of_object.High) else
+    if bytes_eq word (codes "low") then Some (attribute.Object of_object.Low) else
+    if bytes_eq word (codes "length") then Some (attribute.Object of_object.Length) else
     if bytes_eq word (codes "range") then Some attribute.Range else
-    if bytes_eq word (codes "pos") then Some attribute.Pos else
-    if bytes_eq word (codes "val") then Some attribute.Val else None
+    if bytes_eq word (codes "pos") then Some (attribute.Type type_attribute.Pos) else
+    if bytes_eq word (codes "val") then Some (attribute.Type type_attribute.Val) else None
 
 unfoldable pub attribute_of : List ℕ → Token → Option Attribute
 attribute_of text token = attribute_named (map to_ascii_lowercase (span text token))

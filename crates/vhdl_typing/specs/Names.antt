@@ -19,6 +19,7 @@ use Rattle.vhdl_typing.specs.declared.told.ObjectName.{ObjectName}
 use Rattle.vhdl_typing.specs.declared.told.PartTold.{PartTold}
 use Rattle.vhdl_typing.specs.declared.told.Told.{Told}
 use Rattle.vhdl_typing.specs.declared.told.TypeAttribute.{TypeAttribute}
+use Rattle.vhdl_units.specs.declared.values.ObjectAttribute.{ObjectAttribute}
 use Rattle.vhdl_typing.specs.declared.told.Attribute.TheVariants as attribute
 use Rattle.vhdl_types.specs.declared.base_type.BaseType.TheVariants as base
 use Rattle.vhdl_typing.specs.declared.told.Denotes.TheVariants as denotes
@@ -28,6 +29,7 @@ use Rattle.vhdl_types.specs.declared.entry.Function.TheVariants as function
 use Rattle.vhdl_typing.specs.declared.told.PartTold.TheVariants as part_told
 use Rattle.vhdl_types.specs.declared.fault.Rule.TheVariants as rule
 use Rattle.vhdl_typing.specs.declared.told.TypeAttribute.TheVariants as type_attribute
+use Rattle.vhdl_units.specs.declared.values.ObjectAttribute.TheVariants as of_object
 
 -- ---- the identifier
 
@@ -207,27 +209,29 @@ unfoldable pub last_value_of : ObjectName → ℕ → NameTold → NameTold
 last_value_of o place n =
     if is_signal o && not (is_array_type o.base) then becomes_value (option_types o.base) n else has_no_such place n
 
-unfoldable pub object_attribute : Attribute → ObjectName → ℕ → NameTold → NameTold
-object_attribute attribute.Event o place n = change_of o place n
-object_attribute attribute.Active o place n = change_of o place n
-object_attribute attribute.LastValue o place n = last_value_of o place n
-object_attribute attribute.Bound o place n = if has_bounds o then bound_of n else has_no_such place n
-object_attribute attribute.Range o place n = if has_bounds o then range_of n else has_no_such place n
-object_attribute _ o place n = has_no_such place n
+unfoldable pub object_attribute : ObjectAttribute → ObjectName → ℕ → NameTold → NameTold
+object_attribute of_object.Event o place n = change_of o place n
+object_attribute of_object.Active o place n = change_of o place n
+object_attribute of_object.LastValue o place n = last_value_of o place n
+object_attribute _ o place n = if has_bounds o then bound_of n else has_no_such place n
+
+unfoldable pub object_attributed : Attribute → ObjectName → ℕ → NameTold → NameTold
+object_attributed (attribute.Object a) o place n = object_attribute a o place n
+object_attributed attribute.Range o place n = if has_bounds o then range_of n else has_no_such place n
+object_attributed (attribute.Type a) o place n = has_no_such place n
 
 -- an attribute of an enumeration type
 unfoldable pub with_argument : TypeAttribute → BaseType → ℕ → NameTold → NameTold
 with_argument a t place n = if is_enumeration t then with_denoted (denotes.TypeAttribute a t) n else has_no_such place n
 
-unfoldable pub type_attribute_of : Attribute → BaseType → ℕ → NameTold → NameTold
-type_attribute_of attribute.Pos t place n = with_argument type_attribute.Pos t place n
-type_attribute_of attribute.Val t place n = with_argument type_attribute.Val t place n
-type_attribute_of _ t place n = has_no_such place n
+unfoldable pub type_attributed : Attribute → BaseType → ℕ → NameTold → NameTold
+type_attributed (attribute.Type a) t place n = with_argument a t place n
+type_attributed _ t place n = has_no_such place n
 
 unfoldable pub attributed_as : Denotes → Option Attribute → ℕ → NameTold → NameTold
 attributed_as denotes.Unknown a place n = n
-attributed_as (denotes.Object o) (Some a) place n = object_attribute a o place n
-attributed_as (denotes.Subtype mark) (Some a) place n = type_attribute_of a mark.base place n
+attributed_as (denotes.Object o) (Some a) place n = object_attributed a o place n
+attributed_as (denotes.Subtype mark) (Some a) place n = type_attributed a mark.base place n
 attributed_as _ a place n = has_no_such place n
 
 unfoldable pub attributed : List ℕ → NameTold → Token → NameTold

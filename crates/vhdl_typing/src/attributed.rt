@@ -11,6 +11,7 @@ use sqlite_items::Items;
 use std::alloc::{AllocError, Global};
 use vhdl_tokens::Token;
 use vhdl_types::BaseType;
+use vhdl_units::ObjectAttribute;
 
 /// What `left`, `right`, `high`, `low` and `length` tell. They are numbers of the array's bounds, and hang on no
 /// value of it.
@@ -70,11 +71,11 @@ fn last_value_of(
     }
 }
 
-/// What an attribute of an object tells.
+/// What an attribute of an object tells but for its range.
 #[tactic(auto, unfolding(crate::specs::Names::object_attribute))]
 fn object_attribute(
     alloc: Global,
-    attribute: Attribute,
+    attribute: ObjectAttribute,
     object: ObjectName,
     place: u32,
     name: NameTold,
@@ -82,9 +83,26 @@ fn object_attribute(
     ensures { IfOk result (λ told. told ≡ spec.object_attribute attribute object place name) }
 {
     match attribute {
-        Attribute::Event | Attribute::Active => change_of(alloc, object, place, name),
-        Attribute::LastValue => last_value_of(alloc, object, place, name),
-        Attribute::Bound if has_bounds(object) => bound_of(alloc, name),
+        ObjectAttribute::Event | ObjectAttribute::Active => change_of(alloc, object, place, name),
+        ObjectAttribute::LastValue => last_value_of(alloc, object, place, name),
+        _ if has_bounds(object) => bound_of(alloc, name),
+        _ => has_no_such(alloc, place, name),
+    }
+}
+
+/// What an attribute tells behind the name of an object.
+#[tactic(auto, unfolding(crate::specs::Names::object_attributed))]
+fn object_attributed(
+    alloc: Global,
+    attribute: Attribute,
+    object: ObjectName,
+    place: u32,
+    name: NameTold,
+) -> Result<NameTold, AllocError>
+    ensures { IfOk result (λ told. told ≡ spec.object_attributed attribute object place name) }
+{
+    match attribute {
+        Attribute::Object(attribute) => object_attribute(alloc, attribute, object, place, name),
         Attribute::Range if has_bounds(object) => Ok(range_of(name)),
         _ => has_no_such(alloc, place, name),
     }
@@ -108,20 +126,19 @@ fn with_argument(
     }
 }
 
-/// What an attribute of a type tells.
-#[tactic(auto, unfolding(crate::specs::Names::type_attribute_of))]
-fn type_attribute_of(
+/// What an attribute tells behind the name of a type.
+#[tactic(auto, unfolding(crate::specs::Names::type_attributed))]
+fn type_attributed(
     alloc: Global,
     attribute: Attribute,
     base: BaseType,
     place: u32,
     name: NameTold,
 ) -> Result<NameTold, AllocError>
-    ensures { IfOk result (λ told. told ≡ spec.type_attribute_of attribute base place name) }
+    ensures { IfOk result (λ told. told ≡ spec.type_attributed attribute base place name) }
 {
     match attribute {
-        Attribute::Pos => with_argument(alloc, TypeAttribute::Pos, base, place, name),
-        Attribute::Val => with_argument(alloc, TypeAttribute::Val, base, place, name),
+        Attribute::Type(attribute) => with_argument(alloc, attribute, base, place, name),
         _ => has_no_such(alloc, place, name),
     }
 }
@@ -139,10 +156,10 @@ fn attributed_as(
     match (denotes, attribute) {
         (Denotes::Unknown, _) => Ok(name),
         (Denotes::Object(object), Some(attribute)) => {
-            object_attribute(alloc, attribute, object, place, name)
+            object_attributed(alloc, attribute, object, place, name)
         }
         (Denotes::Subtype(mark), Some(attribute)) => {
-            type_attribute_of(alloc, attribute, mark.base, place, name)
+            type_attributed(alloc, attribute, mark.base, place, name)
         }
         _ => has_no_such(alloc, place, name),
     }

@@ -4,13 +4,14 @@ ghost use Rattle.std.specs.Prelude.{◌≡◌, bytes_eq, map};
 ghost use Rattle.std.specs.Char.{to_ascii_lowercase};
 ghost use Rattle.vhdl_typing.specs.Attributes as spec;
 
-use crate::told::{Attribute, ObjectName};
+use crate::told::{Attribute, ObjectName, TypeAttribute};
 use vhdl_tokens::{Token, span};
 use vhdl_types::{BaseType, Class};
+use vhdl_units::ObjectAttribute;
 
 /// The attribute that the word after an apostrophe names, in either case.
 #[tactic(auto, unfolding(crate::specs::Attributes::attribute_of))]
-pub(crate) fn attribute_of(text: &[u8], token: Token) -> Option<Attribute>
+pub fn attribute_of(text: &[u8], token: Token) -> Option<Attribute>
     ensures { result ≡ spec.attribute_of text.now token }
 {
     attribute_named(span(text, &token))
@@ -21,27 +22,27 @@ fn attribute_named(word: &[u8]) -> Option<Attribute>
     ensures { result ≡ spec.attribute_named (map to_ascii_lowercase word.now) }
 {
     if is(word, "event") {
-        Some(Attribute::Event)
+        Some(Attribute::Object(ObjectAttribute::Event))
     } else if is(word, "active") {
-        Some(Attribute::Active)
+        Some(Attribute::Object(ObjectAttribute::Active))
     } else if is(word, "last_value") {
-        Some(Attribute::LastValue)
+        Some(Attribute::Object(ObjectAttribute::LastValue))
     } else if is(word, "left") {
-        Some(Attribute::Bound)
+        Some(Attribute::Object(ObjectAttribute::Left))
     } else if is(word, "right") {
-        Some(Attribute::Bound)
+        Some(Attribute::Object(ObjectAttribute::Right))
     } else if is(word, "high") {
-        Some(Attribute::Bound)
+        Some(Attribute::Object(ObjectAttribute::High))
     } else if is(word, "low") {
-        Some(Attribute::Bound)
+        Some(Attribute::Object(ObjectAttribute::Low))
     } else if is(word, "length") {
-        Some(Attribute::Bound)
+        Some(Attribute::Object(ObjectAttribute::Length))
     } else if is(word, "range") {
         Some(Attribute::Range)
     } else if is(word, "pos") {
-        Some(Attribute::Pos)
+        Some(Attribute::Type(TypeAttribute::Pos))
     } else if is(word, "val") {
-        Some(Attribute::Val)
+        Some(Attribute::Type(TypeAttribute::Val))
     } else {
         None
     }

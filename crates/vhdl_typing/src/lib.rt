@@ -15,7 +15,7 @@ mod scope;
 mod told;
 mod trees;
 
-pub use attributes::{is_signal_class, is_static_class};
+pub use attributes::{attribute_of, is_signal_class, is_static_class};
 pub use expressions::{choice_is_static, is_others, is_relation};
 pub use faults::{append, asks, at, break_if, is_known, typing_of, with_bounds, without_bounds};
 pub use literals::femtoseconds_in;

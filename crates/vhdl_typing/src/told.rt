@@ -4,6 +4,7 @@ use sqlite_items::Items;
 use vhdl_tokens::Token;
 use vhdl_tree::Operator;
 use vhdl_types::{BaseType, Fault, Function, Mark, Object};
+use vhdl_units::ObjectAttribute;
 
 /// The name of an object, of an element of it or of a slice (8.1).
 #[derive(Clone, Copy, Debug, PartialEq, Eq)]
@@ -28,14 +29,9 @@ pub enum TypeAttribute {
 /// An attribute (16.2).
 #[derive(Clone, Copy, Debug, PartialEq, Eq)]
 pub enum Attribute {
-    Event,
-    Active,
-    LastValue,
-    /// `left`, `right`, `high`, `low` or `length`: a number of an array.
-    Bound,
+    Object(ObjectAttribute),
     Range,
-    Pos,
-    Val,
+    Type(TypeAttribute),
 }
 
 /// What a name denotes.

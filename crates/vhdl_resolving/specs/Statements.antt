@@ -1,6 +1,6 @@
 -- What simple statements and the heads of others mean (IEEE Std 1076-2008, clauses 10 and 11).
 use Rattle.std.specs.Char.{to_ascii_lowercase}
-use Rattle.std.specs.Prelude.{List, None, Option, Some, [], bytes_eq, codes, if◌then◌else◌, map, ℕ}
+use Rattle.std.specs.Prelude.{List, None, Option, Some, [], map, ℕ}
 use Rattle.vhdl_checker.specs.Around.{Around}
 use Rattle.vhdl_checker.specs.Declaring.{next_number}
 use Rattle.vhdl_checker.specs.Faults.{loops_within, subject}
@@ -10,6 +10,7 @@ use Rattle.vhdl_meaning.specs.declared.candidates.Denoted.{Denoted}
 use Rattle.vhdl_meaning.specs.declared.candidates.RangeCandidate.{RangeCandidate}
 use Rattle.vhdl_resolving.specs.Declarations.{declared}
 use Rattle.vhdl_resolving.specs.Values.{choice_here, denoted_here, optional_at, range_here, target_here, value_at}
+use Rattle.vhdl_rules.specs.Statements.{severity_named}
 use Rattle.vhdl_scope.specs.Names.{word_in}
 use Rattle.vhdl_tokens.specs.Meaning.{span}
 use Rattle.vhdl_tokens.specs.Values.{text_value}
@@ -57,17 +58,14 @@ use Rattle.vhdl_units.specs.declared.statements.Severity.TheVariants as severity
 
 -- ---- assertions and reports
 
--- the level that a word names, in lower case
-unfoldable pub severity_named : List ℕ → Severity → Severity
-severity_named word otherwise =
-    if bytes_eq word (codes "note") then severity.Note else
-    if bytes_eq word (codes "warning") then severity.Warning else
-    if bytes_eq word (codes "error") then severity.Error else
-    if bytes_eq word (codes "failure") then severity.Failure else otherwise
+-- the level that is named, or else this one
+unfoldable pub severity_or : Severity → Option Severity → Severity
+severity_or otherwise None = otherwise
+severity_or otherwise (Some level) = level
 
 unfoldable pub severity_of : List ℕ → Severity → Option Token → Severity
 severity_of text otherwise None = otherwise
-severity_of text otherwise (Some token) = severity_named (map to_ascii_lowercase (span text token)) otherwise
+severity_of text otherwise (Some token) = severity_or otherwise (severity_named (map to_ascii_lowercase (span text token)))
 
 unfoldable pub bytes_or : Option (List ℕ) → List ℕ
 bytes_or (Some bytes) = bytes

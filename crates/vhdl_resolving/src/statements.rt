@@ -1,7 +1,6 @@
 //! What simple statements and the heads of others mean.
 
-ghost use Rattle.std.specs.Prelude.{◌≡◌, IfOk, bytes_eq, map};
-ghost use Rattle.std.specs.Char.{to_ascii_lowercase};
+ghost use Rattle.std.specs.Prelude.{◌≡◌, IfOk, map};
 ghost use Rattle.std.specs.Option.{option_copied, option_map};
 ghost use Rattle.vhdl_resolving.specs.Statements as spec;
 ghost use Rattle.vhdl_tokens.specs.Meaning.{span};
@@ -13,6 +12,7 @@ use sqlite_items::Items;
 use std::alloc::{AllocError, Global};
 use vhdl_checker::Surroundings;
 use vhdl_meaning::{Denoted, RangeCandidate, common_type, range_at, target_of};
+use vhdl_rules::severity_named;
 use vhdl_scope::word;
 use vhdl_tokens::{Token, span, string};
 use vhdl_tree::{
@@ -28,28 +28,13 @@ use vhdl_units::{
 
 // ---- assertions and reports
 
-// Whether a word is spelled so, in either case. The spelling is in lower case.
-fn is(word: &[u8], spelling: &str) -> bool
-    ensures { result ≡ bytes_eq (map to_ascii_lowercase word.now) (map to_ascii_lowercase spelling.now) }
+#[tactic(auto, unfolding(crate::specs::Statements::severity_or))]
+fn severity_or(otherwise: Severity, level: Option<Severity>) -> Severity
+    ensures { result ≡ spec.severity_or otherwise level }
 {
-    word.eq_ignore_ascii_case(spelling.as_bytes())
-}
-
-// The level that a word names, in either case.
-#[tactic(auto, unfolding(crate::specs::Statements::severity_named))]
-fn severity_named(word: &[u8], otherwise: Severity) -> Severity
-    ensures { result ≡ spec.severity_named (map to_ascii_lowercase word.now) otherwise }
-{
-    if is(word, "note") {
-        Severity::Note
-    } else if is(word, "warning") {
-        Severity::Warning
-    } else if is(word, "error") {
-        Severity::Error
-    } else if is(word, "failure") {
-        Severity::Failure
-    } else {
-        otherwise
+    match level {
+        None => otherwise,
+        Some(level) => level,
     }
 }
 
@@ -59,7 +44,7 @@ fn severity_of(text: &[u8], otherwise: Severity, level: &Option<Token>) -> Sever
 {
     match level {
         None => otherwise,
-        Some(token) => severity_named(span(text, token), otherwise),
+        Some(token) => severity_or(otherwise, severity_named(span(text, token))),
     }
 }
 

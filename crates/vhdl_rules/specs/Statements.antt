@@ -1,7 +1,7 @@
 -- Sequential statements and concurrent assignments (IEEE Std 1076-2008, clauses 10 and 11).
 use Rattle.std.specs.Char.{to_ascii_lowercase}
 use Rattle.std.specs.List.{flat_map}
-use Rattle.std.specs.Prelude.{Bool, List, None, Option, Some, [], bytes_eq, codes, false, if◌then◌else◌, map, not, true, ℕ, ◌&&◌, ◌++◌, ◌||◌}
+use Rattle.std.specs.Prelude.{Bool, List, None, Option, Some, [], bytes_eq, codes, false, if◌then◌else◌, is_some, map, not, true, ℕ, ◌&&◌, ◌++◌}
 use Rattle.vhdl_rules.specs.Values.{asked_optional, optional_names, tested, valued}
 use Rattle.vhdl_rules.specs.declared.told.ElementTold.{ElementTold}
 use Rattle.vhdl_rules.specs.declared.told.WaitTold.{WaitTold}
@@ -17,11 +17,13 @@ use Rattle.vhdl_typing.specs.declared.told.Denotes.{Denotes}
 use Rattle.vhdl_typing.specs.declared.told.NameTold.{NameTold}
 use Rattle.vhdl_typing.specs.declared.told.ObjectName.{ObjectName}
 use Rattle.vhdl_typing.specs.declared.told.Told.{Told}
+use Rattle.vhdl_units.specs.declared.statements.Severity.{Severity}
 use Rattle.vhdl_types.specs.declared.base_type.BaseType.TheVariants as base
 use Rattle.vhdl_types.specs.declared.entry.Class.TheVariants as class
 use Rattle.vhdl_typing.specs.declared.told.Denotes.TheVariants as denotes
 use Rattle.vhdl_tree.specs.declared.declarations.Mode.TheVariants as mode
 use Rattle.vhdl_types.specs.declared.fault.Rule.TheVariants as rule
+use Rattle.vhdl_units.specs.declared.statements.Severity.TheVariants as severity
 
 -- ---- targets
 
@@ -120,12 +122,16 @@ wait_faults is_listed wait =
 
 -- ---- assertions and reports
 
--- the four levels, in lower case
-unfoldable pub is_severity : List ℕ → Bool
-is_severity word = bytes_eq word (codes "note") || bytes_eq word (codes "warning") || bytes_eq word (codes "error") || bytes_eq word (codes "failure")
+-- the level that a word names, in lower case (16.3)
+unfoldable pub severity_named : List ℕ → Option Severity
+severity_named word =
+    if bytes_eq word (codes "note") then Some severity.Note else
+    if bytes_eq word (codes "warning") then Some severity.Warning else
+    if bytes_eq word (codes "error") then Some severity.Error else
+    if bytes_eq word (codes "failure") then Some severity.Failure else None
 
 unfoldable pub severity_faults : List ℕ → Option Token → List Fault
-severity_faults text (Some token) = if is_severity (map to_ascii_lowercase (span text token)) then [] else at token.start rule.WrongKind
+severity_faults text (Some token) = if is_some (severity_named (map to_ascii_lowercase (span text token))) then [] else at token.start rule.WrongKind
 severity_faults text None = []
 
 -- ---- next and exit

@@ -16,7 +16,7 @@ pub use associations::map_faults;
 pub use cases::{arm_faults, subject_faults, subject_type};
 pub use objects::{objects_faults, subtype_faults};
 pub use statements::{
-    jump_faults, sensitivity_faults, severity_faults, signal_assignment_faults,
+    jump_faults, sensitivity_faults, severity_faults, severity_named, signal_assignment_faults,
     variable_assignment_faults, wait_faults,
 };
 pub use subtypes::{

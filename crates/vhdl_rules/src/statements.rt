@@ -19,6 +19,7 @@ use vhdl_types::{BaseType, Class, Fault, Rule};
 use vhdl_typing::{
     Denotes, NameTold, ObjectName, Told, append, at, break_if, is_known, is_signal_class,
 };
+use vhdl_units::Severity;
 
 /// Whether `<=` can assign objects of a class: signals, and ports that aren't of mode `in` (10.5.2.1).
 #[tactic(auto, unfolding(crate::specs::Statements::is_driven))]
@@ -319,15 +320,22 @@ fn is_spelled(word: &[u8], spelling: &str) -> bool
     word.eq_ignore_ascii_case(spelling.as_bytes())
 }
 
-/// Whether a word is one of the four severity levels (16.3).
-#[tactic(auto, unfolding(crate::specs::Statements::is_severity))]
-fn is_severity(word: &[u8]) -> bool
-    ensures { result ≡ spec.is_severity (map to_ascii_lowercase word.now) }
+/// The severity level that a word names, in either case (16.3).
+#[tactic(auto, unfolding(crate::specs::Statements::severity_named))]
+pub fn severity_named(word: &[u8]) -> Option<Severity>
+    ensures { result ≡ spec.severity_named (map to_ascii_lowercase word.now) }
 {
-    is_spelled(word, "note")
-        || is_spelled(word, "warning")
-        || is_spelled(word, "error")
-        || is_spelled(word, "failure")
+    if is_spelled(word, "note") {
+        Some(Severity::Note)
+    } else if is_spelled(word, "warning") {
+        Some(Severity::Warning)
+    } else if is_spelled(word, "error") {
+        Some(Severity::Error)
+    } else if is_spelled(word, "failure") {
+        Some(Severity::Failure)
+    } else {
+        None
+    }
 }
 
 /// The fault of a word after `severity` that is none of the four levels, if there is one (10.3, 10.4).
@@ -341,7 +349,7 @@ pub fn severity_faults(
 {
     match level {
         Some(token) => {
-            if is_severity(span(text, &token)) {
+            if severity_named(span(text, &token)).is_some() {
                 Ok(Items::new(alloc))
             } else {
                 at(alloc, token.start, Rule::WrongKind)

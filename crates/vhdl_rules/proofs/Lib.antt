@@ -2,3 +2,4 @@ mod Known
 mod Turns
 mod KnownParts
 mod Taking
+mod Counts

@@ -38,7 +38,7 @@ fn first_choosable(types: &[BaseType]) -> Option<BaseType>
 }
 
 /// The type by whose values a case statement chooses, where its expression can have exactly one such.
-#[tactic(auto, unfolding(crate::specs::Cases::subject_type), using(vhdl_operators::proofs::Counts::only_counted, vhdl_operators::proofs::Counts::not_counted))]
+#[tactic(auto, unfolding(crate::specs::Cases::subject_type), using(crate::proofs::Counts::only_counted, crate::proofs::Counts::not_counted))]
 pub fn subject_type(subject: &Told) -> Option<BaseType>
     ensures { result ≡ spec.subject_type subject.now }
 {

@@ -10,10 +10,3 @@ pub use fault::{DesignFault, SessionFault};
 pub use reading::read_text;
 pub use running::{Job, run_session};
 pub use sim_memory::NoMemory;
-
-#[cfg(test)]
-mod rules;
-#[cfg(test)]
-mod tests;
-#[cfg(test)]
-mod units;

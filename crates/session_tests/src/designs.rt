@@ -1,7 +1,7 @@
 //! Texts with their designs, and texts that can't be run with the cause, worked out by hand.
 
-use crate::{DesignFault, SessionFault, read_text};
 use sim_design::Design;
+use sim_session::{DesignFault, SessionFault, read_text};
 use std::test::Fail;
 use vhdl_types::{Fault, Rule};
 

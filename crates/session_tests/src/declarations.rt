@@ -136,7 +136,7 @@ const UNITS: [Refused; 32] = [
     ),
 ];
 
-const DECLARATIONS: [Refused; 31] = [
+const DECLARATIONS: [Refused; 32] = [
     // signals
     (
         4,
@@ -282,6 +282,11 @@ const DECLARATIONS: [Refused; 31] = [
     (
         24,
         "entity c is generic (g : integer := 1); port (i : in bit; o : out bit; io : inout bit); end; architecture a of c is begin end; entity e is end; architecture a of e is signal s, t, u : bit; signal n : integer; begin x : entity work.c generic map (^n) port map (s, t, u); end;",
+    ),
+    // a choice of an aggregate
+    (
+        24,
+        "entity e is end; architecture a of e is signal n : integer; signal v : bit_vector(0 to 3) := ^\"00\" & (n => '1', 1 => '0'); begin end;",
     ),
 ];
 

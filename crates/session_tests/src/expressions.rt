@@ -116,7 +116,7 @@ const OPERANDS: [Refused; 22] = [
     ),
 ];
 
-const PLACES: [Refused; 22] = [
+const PLACES: [Refused; 23] = [
     // a time as the exponent
     (
         10,
@@ -226,6 +226,11 @@ const PLACES: [Refused; 22] = [
     (
         10,
         "entity e is end; architecture a of e is type t is (x, y); signal s : bit := ^x; begin end;",
+    ),
+    // a side in brackets
+    (
+        10,
+        "entity e is end; architecture a of e is signal b : boolean; begin b <= ^(1) = '1'; end;",
     ),
 ];
 

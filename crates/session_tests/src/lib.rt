@@ -7,6 +7,8 @@ mod declarations;
 #[cfg(test)]
 mod designs;
 #[cfg(test)]
+mod excused;
+#[cfg(test)]
 mod expressions;
 #[cfg(test)]
 mod meanings;

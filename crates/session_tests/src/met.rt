@@ -3,7 +3,7 @@
 use crate::trying::meets;
 use std::test::Fail;
 
-const MET: [&'static str; 25] = [
+const MET: [&'static str; 26] = [
     // two entities
     "entity e is end; entity f is end;",
     // two architectures
@@ -54,9 +54,11 @@ const MET: [&'static str; 25] = [
     "entity e is end; architecture a of e is signal b : boolean; signal n : integer; signal t : time; signal v : bit_vector(0 to 1); begin b <= b and b and not b; b <= (b or b) xor (b nand b); b <= (b nor b) xnor b; b <= n = 1; b <= t < 1 ns; b <= v = \"01\"; n <= 1 + 2 - 3 * 4 / 5 mod 6 rem 7; n <= 2 ** 3; n <= abs n; n <= -n; t <= t + 1 ns - t; t <= 2 * t; t <= t * 2; t <= t / 2; n <= t / t; t <= -t; v <= v & v; v <= '0' & '1'; v <= v(0) & v(1); end;",
     // one side has its type alone
     "entity e is end; architecture a of e is signal b : boolean; signal u : std_ulogic; begin b <= u = '0'; b <= '1' = u;  end;",
+    // others twice in an aggregate
+    "entity e is end; architecture a of e is signal v : bit_vector(0 to 3) := (others => '0', others => '1'); begin end;",
 ];
 
-const ALSO_MET: [&'static str; 26] = [
+const ALSO_MET: [&'static str; 27] = [
     // strings and bits
     "entity e is end; architecture a of e is signal v : bit_vector(0 to 3) := \"0101\"; signal w : std_ulogic_vector(0 to 3) := \"01XZ\"; signal x : string(1 to 4) := \"abcd\"; signal y : bit_vector(0 to 3) := X\"A\"; signal z : std_logic_vector(0 to 2) := O\"7\"; begin end;",
     // aggregates
@@ -109,6 +111,8 @@ const ALSO_MET: [&'static str; 26] = [
     "entity e is end; architecture a of e is signal n : integer := 2147483647; signal t : time := 9223372036854775807 fs; signal u : time := 2 hr; signal m : integer := -2147483647; begin end;",
     // constants and generics in values
     "entity e is generic (g : integer := 3); end; architecture a of e is constant c : integer := g + 1; signal s : integer := c; signal v : bit_vector(0 to c); signal n : integer := v'length; begin end;",
+    // a bracket round an actual
+    "entity c is generic (g : integer := 1); port (i : in bit; o : out bit; io : inout bit); end; architecture a of c is begin end; entity e is end; architecture a of e is signal s, t, u : bit; begin x : entity work.c port map (s, (t), u); end;",
 ];
 
 #[test]

@@ -111,7 +111,7 @@ const NAMES: [Refused; 21] = [
     ),
 ];
 
-const KINDS: [Refused; 22] = [
+const KINDS: [Refused; 24] = [
     // a type as a value
     (
         6,
@@ -221,6 +221,16 @@ const KINDS: [Refused; 22] = [
     (
         6,
         "entity e is end; architecture a of e is begin ^true(x) <= '1'; end;",
+    ),
+    // an index in the place of a range
+    (
+        6,
+        "entity e is end; architecture a of e is signal v : bit_vector(0 to 1); begin process begin for i in ^v'range(1) loop null; end loop; wait; end process; end;",
+    ),
+    // a call as a target, whatever its argument is
+    (
+        6,
+        "entity e is end; architecture a of e is begin ^rising_edge(0) <= '1'; end;",
     ),
 ];
 

@@ -3,7 +3,7 @@
 use crate::trying::{Refused, refuses};
 use std::test::Fail;
 
-const STATEMENTS: [Refused; 26] = [
+const STATEMENTS: [Refused; 28] = [
     // a constant
     (
         11,
@@ -134,9 +134,19 @@ const STATEMENTS: [Refused; 26] = [
         15,
         "entity e is end; architecture a of e is begin process variable v : bit; begin case v is when '0' => null; when '1' | ^others => null; end case; wait; end process; end;",
     ),
+    // others beside others
+    (
+        15,
+        "entity e is end; architecture a of e is begin process variable v : bit; begin case v is when ^others | others => null; end case; wait; end process; end;",
+    ),
+    // others twice
+    (
+        15,
+        "entity e is end; architecture a of e is begin process variable v : bit; begin case v is when ^others => null; when others => null; end case; wait; end process; end;",
+    ),
 ];
 
-const MAPS: [Refused; 15] = [
+const MAPS: [Refused; 16] = [
     // an unknown formal
     (
         18,
@@ -212,9 +222,14 @@ const MAPS: [Refused; 15] = [
         21,
         "entity c is generic (g : integer := 1); port (i : in bit; o : out bit; io : inout bit); end; architecture a of c is begin end; entity e is port (pi : in bit; po : out bit; pio : inout bit); end; architecture a of e is signal s, t, u : bit; begin x : entity work.c port map (s, t, ^po); end;",
     ),
+    // too many, and nothing else is tested in it
+    (
+        18,
+        "entity c is generic (g : integer := 1); port (i : in bit; o : out bit; io : inout bit); end; architecture a of c is begin end; entity e is end; architecture a of e is signal s, t, u : bit; begin x : entity work.c port map (s, t, u, ^1 = '1'); end;",
+    ),
 ];
 
-const ORDER: [Refused; 5] = [
+const ORDER: [Refused; 9] = [
     // a bound that reads a signal breaks two rules
     (
         8,
@@ -239,6 +254,26 @@ const ORDER: [Refused; 5] = [
     (
         3,
         "entity e is end; architecture a of e is begin process begin wait; end process ^p; x <= '1'; end;",
+    ),
+    // no bounds, and a range that doesn't fit behind
+    (
+        9,
+        "entity e is end; architecture a of e is signal ^x : bit_vector range 1 to 2; begin end;",
+    ),
+    // an index on a scalar that can't be assigned
+    (
+        10,
+        "entity e is end; architecture a of e is constant c : bit := '0'; begin ^c(0) <= '1'; end;",
+    ),
+    // an actual that isn't static, of an in port
+    (
+        19,
+        "entity c is port (o : out bit); end; entity e is port (pi : in bit_vector(0 to 1)); end; architecture a of e is signal n : integer; begin x : entity work.c port map (^pi(n)); end;",
+    ),
+    // a bound is tested by itself
+    (
+        8,
+        "entity e is end; architecture a of e is signal n : integer; signal v : bit_vector(^n to x); begin end;",
     ),
 ];
 

@@ -422,3 +422,28 @@ fn nesting_ends_at_64(rt: HostRuntime) -> Result<(), Fail> {
     }
     Ok(())
 }
+
+const ASSIGNED: &str = "architecture a of e is begin s <= ";
+
+// Where a text begins, how many brackets are opened, and what stands behind them.
+const OF_TWO_FAULTS: [((&str, usize, &str), &str); 6] = [
+    // no design file begins so, whatever the brackets are
+    (("", 65, ""), "syntax 0"),
+    (("entity e is x ", 65, ""), "syntax 3"),
+    // the tokens end behind the brackets
+    ((ASSIGNED, 64, ""), "syntax 72"),
+    ((ASSIGNED, 65, ""), "nesting 72"),
+    // the last bracket opens the 65th level, and may not stand there
+    ((ASSIGNED, 64, "5 ("), "syntax 73"),
+    // it may, and the tokens end behind it
+    ((ASSIGNED, 64, "x("), "nesting 73"),
+];
+
+#[test]
+fn the_first_of_two_faults_is_answered(rt: HostRuntime) -> Result<(), Fail> {
+    for ((front, depth, back), want) in OF_TWO_FAULTS {
+        let text = nested(rt.alloc(), (front, "(", back, "", ""), depth)?;
+        assert_eq!(rt; read(rt.alloc(), text.as_str())?.as_str(), want, "{text}");
+    }
+    Ok(())
+}

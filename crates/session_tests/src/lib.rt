@@ -17,6 +17,12 @@ mod met;
 #[cfg(test)]
 mod names;
 #[cfg(test)]
+mod printing;
+#[cfg(test)]
 mod statements;
 #[cfg(test)]
 mod trying;
+#[cfg(test)]
+mod units;
+#[cfg(test)]
+mod values;

@@ -1,154 +1,14 @@
 //! What the names and expressions of a design file mean, worked out by hand.
 
+use crate::trying::units_of;
+use crate::values::push_value;
 use std::alloc::Global;
 use std::test::Fail;
-use vhdl_names::resolve_names;
-use vhdl_reader::read_design;
-use vhdl_tokens::tokens;
 use vhdl_units::{
-    ChoiceValue, ItemValue, LinkValue, PartValue, Reference, ResolvedArchitecture,
-    ResolvedConcurrentBody, ResolvedDeclaration, ResolvedUnit, Units, Value,
+    ResolvedArchitecture, ResolvedConcurrentBody, ResolvedDeclaration, ResolvedUnit, Units,
 };
 
-// ---- values as texts: `Bit#1` is a literal by its type and position, `@15` an object by its number, `!` follows
-// what is globally static, and what has no meaning is `?`
-
-fn push_bytes(out: &mut String, bytes: &[u8]) -> Result<(), Fail> {
-    for byte in bytes {
-        out.push(char::from(*byte))?;
-    }
-    Ok(())
-}
-
-fn push_static(out: &mut String, is_static: bool) -> Result<(), Fail> {
-    if is_static {
-        out.push('!')?;
-    }
-    Ok(())
-}
-
-#[cycle(push)]
-fn push_value(out: &mut String, value: &Value) -> Result<(), Fail> {
-    match value {
-        Value::Unknown => out.push('?')?,
-        Value::Integer(number) => write!(out, "{number}")?,
-        Value::Time(time) => write!(out, "{time}fs")?,
-        Value::Literal(base, position) => write!(out, "{base:?}#{position}")?,
-        Value::Text(base, bytes) => {
-            write!(out, "{base:?}\"")?;
-            push_bytes(out, bytes.as_slice())?;
-            out.push('"')?;
-        }
-        Value::Object(reference) => push_reference(out, reference)?,
-        Value::Attribute(reference, attribute) => {
-            push_reference(out, reference)?;
-            write!(out, "'{attribute:?}")?;
-        }
-        Value::Call(function, argument) => {
-            write!(out, "{function:?}(")?;
-            push_value(out, argument.get())?;
-            out.push(')')?;
-        }
-        Value::Now => out.push_str("Now")?,
-        Value::Position(base, inner) => {
-            write!(out, "{base:?}'pos(")?;
-            push_value(out, inner.get())?;
-            out.push(')')?;
-        }
-        Value::At(base, inner) => {
-            write!(out, "{base:?}'val(")?;
-            push_value(out, inner.get())?;
-            out.push(')')?;
-        }
-        Value::Unary(operator, base, inner) => {
-            write!(out, "{operator:?}:{base:?}(")?;
-            push_value(out, inner.get())?;
-            out.push(')')?;
-        }
-        Value::Chain(base, first, links) => {
-            write!(out, "{base:?}[")?;
-            push_value(out, first.get())?;
-            push_links(out, links.as_slice())?;
-            out.push(']')?;
-        }
-        Value::Aggregate(base, items) => {
-            write!(out, "{base:?}{{")?;
-            push_items(out, items.as_slice())?;
-            out.push('}')?;
-        }
-    }
-    Ok(())
-}
-
-#[cycle(push)]
-fn push_reference(out: &mut String, reference: &Reference) -> Result<(), Fail> {
-    let number = reference.object.number;
-    write!(out, "@{number}")?;
-    for part in reference.parts.as_slice() {
-        push_part(out, part)?;
-    }
-    Ok(())
-}
-
-#[cycle(push)]
-fn push_part(out: &mut String, part: &PartValue) -> Result<(), Fail> {
-    match part {
-        PartValue::Index(index, is_static) => {
-            out.push('(')?;
-            push_value(out, index)?;
-            push_static(out, *is_static)?;
-            out.push(')')?;
-        }
-        PartValue::Slice(left, direction, right, is_static) => {
-            out.push('(')?;
-            push_value(out, left)?;
-            write!(out, " {direction:?} ")?;
-            push_value(out, right)?;
-            push_static(out, *is_static)?;
-            out.push(')')?;
-        }
-    }
-    Ok(())
-}
-
-#[cycle(push)]
-fn push_links(out: &mut String, links: &[LinkValue]) -> Result<(), Fail> {
-    for link in links {
-        let operator = link.operator;
-        write!(out, " {operator:?} ")?;
-        push_value(out, &link.right)?;
-    }
-    Ok(())
-}
-
-#[cycle(push)]
-fn push_items(out: &mut String, items: &[ItemValue]) -> Result<(), Fail> {
-    for item in items {
-        push_choices(out, item.choices.as_slice())?;
-        push_value(out, &item.value)?;
-        out.push(',')?;
-    }
-    Ok(())
-}
-
-#[cycle(push)]
-fn push_choices(out: &mut String, choices: &[ChoiceValue]) -> Result<(), Fail> {
-    for choice in choices {
-        match choice {
-            ChoiceValue::Value(value) => push_value(out, value)?,
-            ChoiceValue::Range(left, direction, right) => {
-                push_value(out, left)?;
-                write!(out, " {direction:?} ")?;
-                push_value(out, right)?;
-            }
-            ChoiceValue::Others => out.push_str("others")?,
-        }
-        out.push_str("=>")?;
-    }
-    Ok(())
-}
-
-// ---- units as texts: what declared objects begin with, and what is assigned to what
+// ---- what declared objects begin with, and what is assigned to what
 
 fn push_declaration(out: &mut String, declaration: &ResolvedDeclaration) -> Result<(), Fail> {
     if let ResolvedDeclaration::Objects(objects) = declaration {
@@ -300,15 +160,6 @@ const MEANINGS: [(&str, &str); 24] = [
         "14:15:;@14<=@15 if Boolean[Boolean[@14 Equal Bit#0] And Boolean#1];",
     ),
 ];
-
-fn units_of(alloc: Global, text: &str) -> Result<Units, Fail> {
-    if text.len() > 1_048_576 {
-        return Err(Fail::from(text));
-    }
-    let tokens = tokens(alloc, text.as_bytes())?;
-    let tree = read_design(alloc, tokens.as_slice())?;
-    Ok(resolve_names(alloc, text.as_bytes(), &tree)?)
-}
 
 fn means(alloc: Global, body: &str, want: &str) -> Result<(), Fail> {
     let text = format!(in alloc; "entity e is end; architecture a of e is {body} end;")?;

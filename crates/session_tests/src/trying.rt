@@ -1,8 +1,12 @@
-//! What tries the static rules: a text with its mark, and a text without.
+//! What tries whole texts: for the static rules a text with its mark and a text without, and the units of a text.
 
 use sim_session::{DesignFault, SessionFault, read_text};
 use std::alloc::Global;
 use std::test::Fail;
+use vhdl_names::resolve_names;
+use vhdl_reader::read_design;
+use vhdl_tokens::tokens;
+use vhdl_units::Units;
 
 /// The number of the rule, and a text with `^` before the place where it is broken first.
 pub type Refused = (u8, &'static str);
@@ -49,4 +53,14 @@ pub fn meets(alloc: Global, table: &[&'static str]) -> Result<(), Fail> {
         }
     }
     Ok(())
+}
+
+/// The units of a text that breaks no rule.
+pub fn units_of(alloc: Global, text: &str) -> Result<Units, Fail> {
+    if text.len() > 1_048_576 {
+        return Err(Fail::from(text));
+    }
+    let tokens = tokens(alloc, text.as_bytes())?;
+    let tree = read_design(alloc, tokens.as_slice())?;
+    Ok(resolve_names(alloc, text.as_bytes(), &tree)?)
 }

@@ -64,6 +64,7 @@ TEXTS = {
     "arms of a case": sequential("case a is", " when a=>", " end case;"),
     "loops": sequential("", "loop end loop;", ""),
     "waits on names": sequential("wait on a", ",a", ";"),
+    "declarations of a process": concurrent("process ", "variable v:bit;", "begin end process;"),
     "signals": filled("architecture a of e is ", "signal s:bit;", "begin end;"),
     "names of a signal": filled("architecture a of e is signal s", ",s", ":bit; begin end;"),
     "enumeration literals": filled("architecture a of e is type t is (a", ",a", "); begin end;"),

@@ -3,9 +3,10 @@ use Rattle.std.proofs.Common.{◌≡◌, true, []}
 use Rattle.std.proofs.lemmas.Bool.{not-false}
 use Rattle.vhdl_known_values.specs.Known.{known_value}
 use Rattle.vhdl_known_values.specs.Tells.{Tells}
+use Rattle.vhdl_known_values.specs.Typed.{HasType}
 use Rattle.vhdl_known_values.proofs.Free.{no_break, own_typing}
 use Rattle.vhdl_meaning.specs.Settling.{settled}
-use Rattle.vhdl_meaning.specs.declared.candidates.Candidate.{Candidate}
+use Rattle.vhdl_meaning.specs.declared.candidates.Candidate.{Candidate, out-Candidate}
 use Rattle.vhdl_operators.specs.Places.{fits_alone}
 use Rattle.vhdl_operators.specs.Sets.{has}
 use Rattle.vhdl_types.specs.declared.base_type.BaseType.{BaseType}
@@ -22,3 +23,9 @@ has_asked t told names h = not-false (has told.types t) (no_break _ told.names t
 
 pub asked : (t : BaseType) (told : Told) (c : Candidate) → Tells told c → Fine told → asks t told ≡ [] → known_value (settled c t) ≡ true
 asked t told c tells fine h = (tells fine.0 (own_typing told fine.1)).known t (has_asked t told fine.0 h)
+
+pub asked_type : (t : BaseType) (told : Told) (c : Candidate) → Tells told c → Fine told → asks t told ≡ [] → HasType (settled c t) t
+asked_type t told c tells fine h = (tells fine.0 (own_typing told fine.1)).typed t (has_asked t told fine.0 h)
+
+pub asked_static : (t : BaseType) (told : Told) (c : Candidate) → Tells told c → Fine told → asks t told ≡ [] → (out-Candidate c).is_static ≡ told.is_static
+asked_static t told c tells fine h = (tells fine.0 (own_typing told fine.1)).static t (has_asked t told fine.0 h)

@@ -1,13 +1,16 @@
 pub mod Settles
 pub mod Knows
+pub mod OfType
 pub mod Single
 pub mod Literals
 pub mod Faults
 pub mod Free
 pub mod Parts
 pub mod Naming
+pub mod Flagged
 pub mod Operators
 pub mod Operands
+pub mod Related
 pub mod Chains
 pub mod Aggregates
 pub mod Whole

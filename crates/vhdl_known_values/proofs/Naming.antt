@@ -1,12 +1,15 @@
 -- Whole names: as values, as targets and as ranges.
-use Rattle.std.proofs.Common.{◌≡◌, ℕ, true, false, ◌&&◌, List, [], ◌∷◌, inl, inr, refl, ap, ◌∙◌}
+use Rattle.std.proofs.Common.{◌≡◌, ℕ, Bool, true, false, ◌&&◌, List, [], ◌∷◌, inl, inr, refl, ap, sym, ◌∙◌}
+use Rattle.std.proofs.Math.Bool.{and-true}
 use Rattle.vhdl_known_values.specs.Known.{known_range, known_value}
-use Rattle.vhdl_known_values.specs.Meanings.{IsObject, NameTells, ObjectNamed}
-use Rattle.vhdl_known_values.specs.Names.{Begins, IsLiterals, IsOne, IsRange, Means, NameMeans, PartsTell}
+use Rattle.vhdl_known_values.specs.Meanings.{IsObject, NameTells, ObjectNamed, bounds_are_static}
+use Rattle.vhdl_known_values.specs.Names.{Begins, IsLiterals, IsOne, IsRange, IsValueOf, Means, NameMeans, PartsTell}
 use Rattle.vhdl_known_values.specs.Tells.{Agrees, Tells}
+use Rattle.vhdl_known_values.specs.Typed.{type_of}
 use Rattle.vhdl_known_values.proofs.Free.{both_empty, no_break}
 use Rattle.vhdl_known_values.proofs.Knows.{known_now, known_object, known_parts}
 use Rattle.vhdl_known_values.proofs.Literals.{literals_agree}
+use Rattle.vhdl_known_values.proofs.OfType.{type_now, type_object, type_parts}
 use Rattle.vhdl_known_values.proofs.Parts.{parts_begin}
 use Rattle.vhdl_known_values.proofs.Single.{only_agrees}
 use Rattle.vhdl_meaning.specs.Names as meaning
@@ -40,25 +43,40 @@ use Rattle.vhdl_units.specs.declared.values.Value.TheVariants as value
 -- ---- the identifier
 
 object_is : (o : Object) → IsObject (telling.object_name o) (denoted.Object o [] o.base true)
+unfolding telling.object_name bounds_are_static
+object_is o = record {
+  parts = [];
+  base = o.base;
+  is_static = true;
+  typed = refl;
+  is = refl;
+  known = refl;
+  leads = refl;
+  static = refl;
+  parts_static = refl;
+  bounds_static = refl;
+}
+
+value_is : (o : Object) → IsValueOf (telling.object_name o) (is_static_class o.class) (denoted.Object o [] o.base true)
 unfolding telling.object_name
-object_is o = record { parts = []; base = o.base; is_static = true; typed = refl; is = refl; known = refl }
+value_is o = record { object = object_is o; told = sym (and-true (is_static_class o.class)) }
 
-literals_are : (entries : List Entry) → IsLiterals (literal_types entries) (denoted.Literals entries)
-literals_are entries = record { entries = entries; is = refl; typed = refl }
+literals_are : (entries : List Entry) → IsLiterals (literal_types entries) true (denoted.Literals entries)
+literals_are entries = record { entries = entries; is = refl; typed = refl; told = refl }
 
-entry_means : (e : Entry) (entries : List Entry) → Means (telling.denoted e) (literal_types entries) (meaning.denoted_by e entries)
-unfolding telling.denoted meaning.denoted_by
+entry_means : (e : Entry) (entries : List Entry) → Means (telling.denoted e) (literal_types entries) (telling.is_static_entry e) (meaning.denoted_by e entries)
+unfolding telling.denoted telling.is_static_entry meaning.denoted_by
 entry_means (entry.Subtype mark) entries = refl
-entry_means (entry.Object o) entries = object_is o
+entry_means (entry.Object o) entries = value_is o
 entry_means (entry.Literal t position) entries = inl (literals_are entries)
 entry_means (entry.Function function.RisingEdge) entries = refl
 entry_means (entry.Function function.FallingEdge) entries = refl
 entry_means (entry.Function function.ToX01) entries = refl
-entry_means (entry.Function function.Now) entries = refl
+entry_means (entry.Function function.Now) entries = (refl, refl)
 entry_means (entry.Unit u) entries = tt
 entry_means (entry.Label n) entries = tt
 
-begun_begins : (place : ℕ) (entries : List Entry) → Begins (telling.begun place entries) (meaning.begun entries)
+pub begun_begins : (place : ℕ) (entries : List Entry) → Begins (telling.begun place entries) (meaning.begun entries)
 unfolding telling.begun telling.undeclared telling.declared meaning.begun
 begun_begins place [] = λ names typing fits. absurd cc
 begun_begins place (e ∷ entries) = λ names typing fits. entry_means e (e ∷ entries)
@@ -79,28 +97,32 @@ name_means text place entries tolds parts tell = finished_means (telling.extende
 
 -- ---- a name as a value
 
-object_agrees : (told : Told) (o : ObjectName) (d : Denoted) → told.types ≡ telling.option_types o.base → IsObject o d → Agrees told (candidate_of d)
+object_agrees : (told : Told) (o : ObjectName) (d : Denoted) → told.types ≡ telling.option_types o.base → IsValueOf o told.is_static d → Agrees told (candidate_of d)
 unfolding telling.option_types candidate_of
-object_agrees told o d types h = rw h.is (only_agrees told (value.Object (reference o.object h.parts h.base)) h.base (is_static_class o.object.class && h.is_static)
-    (types ∙ ap telling.option_types h.typed) (known_object (reference o.object h.parts h.base) ∙ (known_parts o.object h.parts h.base ∙ h.known)))
+object_agrees told o d types v =
+    let h = v.object in
+    let r = reference o.object h.parts h.base in
+    let static : told.is_static ≡ (is_static_class o.object.class && h.is_static) = rw h.static v.told in
+    rw h.is (only_agrees told (value.Object r) h.base (is_static_class o.object.class && h.is_static) (types ∙ ap telling.option_types h.typed) static
+    (known_object r ∙ (known_parts o.object h.parts h.base ∙ h.known)) (type_object r ∙ type_parts o.object h.parts h.base h.leads))
 
-literals_tell : (told : Told) (types : List BaseType) (d : Denoted) → told.types ≡ types → IsLiterals types d → Agrees told (candidate_of d)
+literals_tell : (told : Told) (types : List BaseType) (d : Denoted) → told.types ≡ types → IsLiterals types told.is_static d → Agrees told (candidate_of d)
 unfolding candidate_of
-literals_tell told types d same h = rw h.is (literals_agree told h.entries (same ∙ h.typed))
+literals_tell told types d same h = rw h.is (literals_agree told h.entries (same ∙ h.typed) h.told)
 
-one_tells : (told : Told) (types : List BaseType) (d : Denoted) → told.types ≡ types → IsOne types d → Agrees told (candidate_of d)
+one_tells : (told : Told) (types : List BaseType) (d : Denoted) → told.types ≡ types → IsOne types told.is_static d → Agrees told (candidate_of d)
 unfolding candidate_of
-one_tells told types d same h = rw h.is (only_agrees told h.value h.type h.is_static (same ∙ h.typed) h.known)
+one_tells told types d same h = rw h.is (only_agrees told h.value h.type h.is_static (same ∙ h.typed) h.told h.known h.has_type)
 
-now_tells : (told : Told) (d : Denoted) → told.types ≡ base.Time ∷ [] → d ≡ denoted.Value value.Now base.Time false → Agrees told (candidate_of d)
+now_tells : (told : Told) (d : Denoted) → told.types ≡ base.Time ∷ [] → told.is_static ≡ false → d ≡ denoted.Value value.Now base.Time false → Agrees told (candidate_of d)
 unfolding candidate_of
-now_tells told d same h = rw h (only_agrees told value.Now base.Time false same known_now)
+now_tells told d same static h = rw h (only_agrees told value.Now base.Time false same static known_now type_now)
 
 no_value_tells : (n : NameTold) (c : Candidate) → Tells (telling.no_value n) c
 unfolding telling.no_value
 no_value_tells n c = λ names typing. let both = both_empty n.names (at n.place rule.WrongKind) names in absurd cc
 
-value_as_tells : (x : Denotes) (n : NameTold) (d : Denoted) → (n.names ≡ [] → n.typing ≡ [] → Means x n.types d) → Tells (telling.value_as x n) (candidate_of d)
+value_as_tells : (x : Denotes) (n : NameTold) (d : Denoted) → (n.names ≡ [] → n.typing ≡ [] → Means x n.types n.is_static d) → Tells (telling.value_as x n) (candidate_of d)
 unfolding telling.value_as telling.told_as
 value_as_tells denotes.Unknown n d h = λ names typing. absurd (h names typing)
 value_as_tells (denotes.Object o) n d h = λ names typing. object_agrees (telling.value_as (denotes.Object o) n) o d refl (h names typing)
@@ -108,7 +130,7 @@ value_as_tells denotes.Value n d h = λ names typing. elim (h names typing) as (
   | inl literals ↦ literals_tell (telling.value_as denotes.Value n) n.types d refl literals
   | inr one ↦ one_tells (telling.value_as denotes.Value n) n.types d refl one
 ]
-value_as_tells denotes.Now n d h = λ names typing. now_tells (telling.value_as denotes.Now n) d refl (h names typing)
+value_as_tells denotes.Now n d h = λ names typing. let m = h names typing in now_tells (telling.value_as denotes.Now n) d refl m.1 m.0
 value_as_tells _ n d h = no_value_tells n (candidate_of d)
 
 pub name_tells : (n : NameTold) (d : Denoted) → NameMeans n d → Tells (value_of n) (candidate_of d)
@@ -117,17 +139,21 @@ name_tells n d h = value_as_tells n.denotes n d h
 
 -- ---- a name as a target, or where a signal is named
 
-named_as : (x : Denotes) (types : List BaseType) (d : Denoted) → Means x types d → ObjectNamed x d
+named_as : (x : Denotes) (types : List BaseType) (s : Bool) (d : Denoted) → Means x types s d → ObjectNamed x d
 unfolding ObjectNamed
-named_as (denotes.Object o) types d h = h
-named_as _ types d h = tt
+named_as (denotes.Object o) types s d h = h.object
+named_as _ types s d h = tt
 
 pub object_named : (n : NameTold) (d : Denoted) → NameMeans n d → NameTells n d
-object_named n d h = λ names typing. named_as n.denotes n.types d (h names typing)
+object_named n d h = λ names typing. named_as n.denotes n.types n.is_static d (h names typing)
 
 pub target_known : (o : ObjectName) (d : Denoted) → IsObject o d → known_value (target_of d) ≡ true
 unfolding target_of
 target_known o d h = rw h.is (known_object (reference o.object h.parts h.base) ∙ (known_parts o.object h.parts h.base ∙ h.known))
+
+pub target_typed : (o : ObjectName) (d : Denoted) → IsObject o d → type_of (target_of d) ≡ o.base
+unfolding target_of
+target_typed o d h = rw h.is (type_object (reference o.object h.parts h.base) ∙ type_parts o.object h.parts h.base h.leads ∙ sym h.typed)
 
 -- ---- a name as a range
 
@@ -139,7 +165,7 @@ wrong_range : (n : NameTold) (d : Denoted) → (telling.wrong_kind n).names ≡ 
 unfolding telling.wrong_kind
 wrong_range n d names = let both = both_empty n.names (at n.place rule.WrongKind) names in absurd cc
 
-range_as_known : (x : Denotes) (n : NameTold) (d : Denoted) → (n.names ≡ [] → n.typing ≡ [] → Means x n.types d) → (range_as x n).names ≡ [] → (range_as x n).typing ≡ []
+range_as_known : (x : Denotes) (n : NameTold) (d : Denoted) → (n.names ≡ [] → n.typing ≡ [] → Means x n.types n.is_static d) → (range_as x n).names ≡ [] → (range_as x n).typing ≡ []
     → known_range (range_of d) ≡ true
 unfolding range_as
 range_as_known denotes.Range n d h names typing = range_is d (h names typing)

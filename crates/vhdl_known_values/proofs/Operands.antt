@@ -138,7 +138,7 @@ typed_by operator.Rem ls rs t u h = typed_integers ls rs t h
 typed_by operator.Power ls rs t u h = typed_integers ls rs t h
 typed_by op ls rs t u h = typed_relation op ls rs refl u
 
-some_type : (types : List BaseType) → is_typed types ≡ true → (t : BaseType) × (has types t ≡ true)
+pub some_type : (types : List BaseType) → is_typed types ≡ true → (t : BaseType) × (has types t ≡ true)
 some_type types h = (first_or base.Integer types, has_first base.Integer types h)
 
 pub typed_operands : (op : Operator) (ls rs : List BaseType) → is_unrelated op ls rs ≡ false → is_typed (results op ls rs) ≡ true → Typed ls rs

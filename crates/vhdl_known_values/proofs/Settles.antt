@@ -21,6 +21,10 @@ pub types_with : (types : List BaseType) (s : Bool) (o : Open) → (out-Candidat
 unfolding candidate_with
 types_with types s o = refl
 
+pub static_with : (types : List BaseType) (s : Bool) (o : Open) → (out-Candidate (candidate_with types s o)).is_static ≡ s
+unfolding candidate_with
+static_with types s o = refl
+
 settled_with : (types : List BaseType) (s : Bool) (o : Open) (t : BaseType) → settled (candidate_with types s o) t ≡ at_types types (settled_open o) t
 unfolding candidate_with
 settled_with types s o t =

@@ -1,11 +1,13 @@
 -- Whole expressions and names mean what they tell: by induction over all that stands in them.
 use Rattle.std.proofs.Common.{◌≡◌, ℕ, List, [], ◌∷◌, map, refl, subst}
+use Rattle.vhdl_known_values.specs.Flags.{FlagsAre, tested_static}
 use Rattle.vhdl_known_values.specs.Lists.{ChoicesTell, ItemTells, ItemsTell, LinkTells, LinksTell}
 use Rattle.vhdl_known_values.specs.Meanings.{BoundsTell, ChoiceTells, HasMeanings}
 use Rattle.vhdl_known_values.specs.Names.{NameMeans, PartTells, PartsTell}
 use Rattle.vhdl_known_values.specs.Tells.{Tells}
 use Rattle.vhdl_known_values.proofs.Aggregates.{aggregate_tells, item_tells}
 use Rattle.vhdl_known_values.proofs.Chains.{chain_tells}
+use Rattle.vhdl_known_values.proofs.Flagged.{name_flagged}
 use Rattle.vhdl_known_values.proofs.Literals.{number_tells, spelled_tells}
 use Rattle.vhdl_known_values.proofs.Naming.{name_means, name_tells, object_named, range_known}
 use Rattle.vhdl_known_values.proofs.Operators.{unary_tells}
@@ -23,7 +25,7 @@ use Rattle.vhdl_tree.specs.declared.expressions.Choice.{Choice, roll-Choice}
 use Rattle.vhdl_tree.specs.declared.expressions.Expr.{Expr, roll-Expr}
 use Rattle.vhdl_tree.specs.declared.expressions.Item.{Item, roll-Item}
 use Rattle.vhdl_tree.specs.declared.expressions.Link.{Link, roll-Link}
-use Rattle.vhdl_tree.specs.declared.expressions.Name.{Name, roll-Name}
+use Rattle.vhdl_tree.specs.declared.expressions.Name.{Name, out-Name, roll-Name}
 use Rattle.vhdl_tree.specs.declared.expressions.Part.{Part, roll-Part}
 use Rattle.vhdl_types.specs.declared.entry.Entry.{Entry}
 use Rattle.vhdl_typing.specs.Trees as telling
@@ -34,7 +36,7 @@ use Rattle.vhdl_typing.specs.declared.told.NameTold.{NameTold}
 use Rattle.vhdl_typing.specs.declared.told.PartTold.{PartTold}
 use Rattle.vhdl_typing.specs.declared.told.Told.{Told}
 use Rattle.vhdl_tree.specs.declared.expressions.Choice.TheOpen.{Choice-F, Expr-F, Part-F, Item-F, Link-F, Name-F}
-use Rattle.vhdl_tree.specs.declared.expressions.Choice.TheFolds.{fold-roll-Choice, fold-roll-Expr, fold-roll-Item, fold-roll-Link, fold-roll-Name, fold-roll-Part, ind-Choice, ind-Expr, ind-Name, map-Choice, map-Expr, map-Item, map-Link, map-Name, map-Part}
+use Rattle.vhdl_tree.specs.declared.expressions.Choice.TheFolds.{fold-roll-Choice, fold-roll-Expr, fold-roll-Item, fold-roll-Link, fold-roll-Name, fold-roll-Part, fold_out-Name, ind-Choice, ind-Expr, ind-Name, ind-Part, map-Choice, map-Expr, map-Item, map-Link, map-Name, map-Part}
 
 module _ (text : List ℕ) (look : Token → List Entry) where
   -- ---- the claims
@@ -293,6 +295,27 @@ module _ (text : List ℕ) (look : Token → List Entry) where
 
   name_agrees : (n : Name) → NameMeans (telling.told_name text look n) (meaning.denoted text look n)
   name_agrees = ind-Name ChoiceClaim ExprClaim PartClaim ItemClaim LinkClaim NameClaim choice_claim expr_claim part_claim item_claim link_claim name_claim
+
+  part_tells : (p : Part) → PartTells (telling.told_part text look p) (meaning.part_candidate text look p)
+  part_tells = ind-Part ChoiceClaim ExprClaim PartClaim ItemClaim LinkClaim NameClaim choice_claim expr_claim part_claim item_claim link_claim name_claim
+
+  all_tell : (parts : List Part) → PartsTell (map (telling.told_part text look) parts) (map (meaning.part_candidate text look) parts)
+  all_tell [] = tt
+  all_tell (p ∷ parts) = (part_tells p, all_tell parts)
+
+  -- each index and slice with its flag
+  abbrev NameFlagged : List PartTold → NameTold → Denoted → Type 0
+  NameFlagged parts n d = n.names ≡ [] → n.typing ≡ [] → FlagsAre n.denotes (map tested_static parts) d
+
+  pub flags_tested : (n : Name) → NameFlagged (map (telling.told_part text look) (out-Name n).parts) (telling.told_name text look n) (meaning.denoted text look n)
+  flags_tested n = rw (
+    fold_out-Name _ _ _ _ _ _ telling.choice_step (telling.expr_step text look) (telling.part_step text look)
+        (telling.item_step text look) (telling.link_step text look) (telling.name_step text look) n,
+    fold_out-Name _ _ _ _ _ _ meaning.choice_step (meaning.expr_step text look) (meaning.part_step text look)
+        (meaning.item_step text look) (meaning.link_step text look) (meaning.name_step text look) n,
+  )
+      (name_flagged text (out-Name n).identifier.start (look (out-Name n).identifier) (map (telling.told_part text look) (out-Name n).parts)
+      (map (meaning.part_candidate text look) (out-Name n).parts) (all_tell (out-Name n).parts))
 
   bounds_tell : (b : Bounds) → BoundsTell (telling.told_bounds text look b) (meaning.range_candidate text look b)
   unfolding BoundsTell

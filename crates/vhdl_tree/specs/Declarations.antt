@@ -28,7 +28,7 @@ use Rattle.vhdl_tree.specs.Lists.{Separated, Perhaps, IsToken, IsOptional}
 use Rattle.vhdl_tree.specs.Expressions.{Expression}
 use Rattle.vhdl_tree.specs.Ranges.{IsBounds}
 
--- mode ::= in alt out alt inout
+-- mode ::= in | out | inout
 abbrev pub mode_of : Option Kind → Option Mode
 mode_of (Some (kind.Word reserved.In)) = Some mode.In
 mode_of (Some (kind.Word reserved.Out)) = Some mode.Out
@@ -42,11 +42,11 @@ subtype_of type constraint = record { mark = type; constraint = constraint }
 abbrev pub Identifiers : List Token → List Token → List Token → Type 0
 Identifiers = Separated (kind.Delimiter delimiter.Comma) (IsToken kind.Identifier)
 
--- [ := expr ]
+-- [ := expression ]
 abbrev pub Default : List Token → Option Expr → List Token → Type 0
 Default = Perhaps (kind.Delimiter delimiter.Assign) Expression
 
--- subt ::= id [ range rng ] alt id ( rng )
+-- subtype_ind ::= id [ range bounds ] | id ( bounds )
 pub data IsSubtype : List Token → Subtype → List Token → Type 0 where
   plain : {us : List Token} {x : Span} → IsSubtype (id x ∷ us) (subtype_of (id x) None) us
   range : {us vs : List Token} {x y : Span} {b : Bounds} → IsBounds us b vs
@@ -54,49 +54,49 @@ pub data IsSubtype : List Token → Subtype → List Token → Type 0 where
   index : {us vs : List Token} {x y z : Span} {b : Bounds} → IsBounds us b (mark delimiter.RightParen z ∷ vs)
       → IsSubtype (id x ∷ mark delimiter.LeftParen y ∷ us) (subtype_of (id x) (Some (constraint.Index b))) vs
 
--- lit ::= id alt CHAR
+-- enum_literal ::= id | CHAR
 pub data IsEnumerationLiteral : List Token → Token → List Token → Type 0 where
   identifier : {us : List Token} {x : Span} → IsEnumerationLiteral (id x ∷ us) (id x) us
   character : {us : List Token} {x : Span} → IsEnumerationLiteral (tok kind.Char x ∷ us) (tok kind.Char x) us
 
--- typ ::= type id is ( lit { , lit } ) ;
+-- type_decl ::= type id is ( enum_literal { , enum_literal } ) ;
 pub data IsType : List Token → TypeDeclaration → List Token → Type 0 where
   enumeration : {ts us : List Token} {x y z u v w : Span} {literals : List Token}
       → Separated (kind.Delimiter delimiter.Comma) IsEnumerationLiteral ts literals (mark delimiter.RightParen v ∷ mark delimiter.Semicolon w ∷ us)
       → IsType (word reserved.Type_ x ∷ id y ∷ word reserved.Is z ∷ mark delimiter.LeftParen u ∷ ts) (record { name = id y; literals = literals }) us
 
--- sub ::= subtype id is subt ;
+-- subtype_decl ::= subtype id is subtype_ind ;
 pub data IsSubtypeDeclaration : List Token → SubtypeDeclaration → List Token → Type 0 where
   declared : {ts us : List Token} {x y z u : Span} {s : Subtype} → IsSubtype ts s (mark delimiter.Semicolon u ∷ us)
       → IsSubtypeDeclaration (word reserved.Subtype x ∷ id y ∷ word reserved.Is z ∷ ts) (record { name = id y; subtype = s }) us
 
--- con ::= constant ids : subt := expr ;
+-- constant_decl ::= constant ids : subtype_ind := expression ;
 pub data IsConstant : List Token → ConstantDeclaration → List Token → Type 0 where
   declared : {ts us vs ws : List Token} {x y z u : Span} {names : List Token} {s : Subtype} {a : Expr}
       → Identifiers ts names (mark delimiter.Colon y ∷ us) → IsSubtype us s (mark delimiter.Assign z ∷ vs) → Expression vs a (mark delimiter.Semicolon u ∷ ws)
       → IsConstant (word reserved.Constant x ∷ ts) (record { names = names; subtype = s; value = a }) ws
 
--- ids : subt [ := expr ] ;
+-- ids : subtype_ind [ := expression ] ;
 pub data IsObject : List Token → ObjectDeclaration → List Token → Type 0 where
   declared : {ts us vs ws : List Token} {x y : Span} {names : List Token} {s : Subtype} {initial : Option Expr}
       → Identifiers ts names (mark delimiter.Colon x ∷ us) → IsSubtype us s vs → Default vs initial (mark delimiter.Semicolon y ∷ ws)
       → IsObject ts (record { names = names; subtype = s; initial = initial }) ws
 
--- sig ::= signal ids : subt [ := expr ] ;
+-- signal_decl ::= signal ids : subtype_ind [ := expression ] ;
 pub data IsSignal : List Token → ObjectDeclaration → List Token → Type 0 where
   declared : {ts us : List Token} {x : Span} {o : ObjectDeclaration} → IsObject ts o us → IsSignal (word reserved.Signal x ∷ ts) o us
 
--- var ::= variable ids : subt [ := expr ] ;
+-- variable_decl ::= variable ids : subtype_ind [ := expression ] ;
 pub data IsVariable : List Token → ObjectDeclaration → List Token → Type 0 where
   declared : {ts us : List Token} {x : Span} {o : ObjectDeclaration} → IsObject ts o us → IsVariable (word reserved.Variable x ∷ ts) o us
 
--- attr ::= attribute id of id : architecture is expr ;
+-- attribute_spec ::= attribute id of id : architecture is expression ;
 pub data IsAttribute : List Token → AttributeSpecification → List Token → Type 0 where
   specified : {ts us : List Token} {x y z u v w t s : Span} {a : Expr} → Expression ts a (mark delimiter.Semicolon s ∷ us)
       → IsAttribute (word reserved.Attribute x ∷ id y ∷ word reserved.Of z ∷ id u ∷ mark delimiter.Colon v ∷ word reserved.Architecture w ∷ word reserved.Is t ∷ ts)
       (record { attribute = id y; architecture = id u; value = a }) us
 
--- decl ::= typ alt sub alt con alt sig alt attr
+-- block_decl ::= type_decl | subtype_decl | constant_decl | signal_decl | attribute_spec
 pub data IsDeclaration : List Token → Declaration → List Token → Type 0 where
   type_is : {ts us : List Token} {d : TypeDeclaration} → IsType ts d us → IsDeclaration ts (declaration.Type d) us
   subtype_is : {ts us : List Token} {d : SubtypeDeclaration} → IsSubtypeDeclaration ts d us → IsDeclaration ts (declaration.Subtype d) us
@@ -104,14 +104,14 @@ pub data IsDeclaration : List Token → Declaration → List Token → Type 0 wh
   signal : {ts us : List Token} {d : ObjectDeclaration} → IsSignal ts d us → IsDeclaration ts (declaration.Signal d) us
   attribute : {ts us : List Token} {d : AttributeSpecification} → IsAttribute ts d us → IsDeclaration ts (declaration.Attribute d) us
 
--- pdecl ::= var alt con alt typ alt sub
+-- process_decl ::= variable_decl | constant_decl | type_decl | subtype_decl
 pub data IsProcessDeclaration : List Token → Declaration → List Token → Type 0 where
   variable : {ts us : List Token} {d : ObjectDeclaration} → IsVariable ts d us → IsProcessDeclaration ts (declaration.Variable d) us
   constant : {ts us : List Token} {d : ConstantDeclaration} → IsConstant ts d us → IsProcessDeclaration ts (declaration.Constant d) us
   type_is : {ts us : List Token} {d : TypeDeclaration} → IsType ts d us → IsProcessDeclaration ts (declaration.Type d) us
   subtype_is : {ts us : List Token} {d : SubtypeDeclaration} → IsSubtypeDeclaration ts d us → IsProcessDeclaration ts (declaration.Subtype d) us
 
--- gen ::= [ constant ] ids : [ in ] subt [ := expr ]
+-- generic_decl ::= [ constant ] ids : [ in ] subtype_ind [ := expression ]
 pub data IsGeneric : List Token → Generic → List Token → Type 0 where
   declared : {ts us vs ws xs ys : List Token} {x : Span} {class way : Option Token} {names : List Token} {s : Subtype} {a : Option Expr}
       → IsOptional (kind.Word reserved.Constant) ts class us → Identifiers us names (mark delimiter.Colon x ∷ vs) → IsOptional (kind.Word reserved.In) vs way ws
@@ -122,7 +122,7 @@ pub data IsMode : List Token → Mode → List Token → Type 0 where
   absent : {ts : List Token} → IsMode ts mode.In ts
   present : {us : List Token} {k : Kind} {x : Span} {m : Mode} → mode_of (Some k) ≡ Some m → IsMode (tok k x ∷ us) m us
 
--- prt ::= [ signal ] ids : [ mode ] subt [ := expr ]
+-- port_decl ::= [ signal ] ids : [ mode ] subtype_ind [ := expression ]
 pub data IsPort : List Token → Port → List Token → Type 0 where
   declared : {ts us vs ws xs ys : List Token} {x : Span} {class : Option Token} {names : List Token} {m : Mode} {s : Subtype} {a : Option Expr}
       → IsOptional (kind.Word reserved.Signal) ts class us → Identifiers us names (mark delimiter.Colon x ∷ vs) → IsMode vs m ws
@@ -135,7 +135,7 @@ pub data IsInterface {A : Type 0} (w : Reserved) (R : List Token → A → List 
       → Separated (kind.Delimiter delimiter.Semicolon) R ts all (mark delimiter.RightParen z ∷ mark delimiter.Semicolon u ∷ us)
       → IsInterface w R (word w x ∷ mark delimiter.LeftParen y ∷ ts) all us
 
--- ent ::= entity id is [ generic ( gen { ; gen } ) ; ] [ port ( prt { ; prt } ) ; ] end [ entity ] [ id ] ;
+-- entity_decl ::= entity id is [ generic ( generic_decl { ; generic_decl } ) ; ] [ port ( port_decl { ; port_decl } ) ; ] end [ entity ] [ id ] ;
 pub data IsEntity : List Token → Entity → List Token → Type 0 where
   declared : {ts us vs ws xs : List Token} {x y z u v : Span} {generics : List Generic} {ports : List Port} {class end_name : Option Token}
       → IsInterface reserved.Generic IsGeneric ts generics us → IsInterface reserved.Port IsPort us ports (word reserved.End u ∷ vs)

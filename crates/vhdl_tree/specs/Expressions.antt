@@ -52,7 +52,7 @@ is_again o (Some other) = if same_operator other o then Some other else None
 abbrev pub again : Operator → Option Kind → Option Operator
 again o k = is_again o (chaining k)
 
--- relop ::= = alt /= alt < alt <= alt > alt >=
+-- comparison ::= = | /= | < | <= | > | >=
 abbrev pub relational : Option Kind → Option Operator
 relational (Some (kind.Delimiter delimiter.Equal)) = Some op.Equal
 relational (Some (kind.Delimiter delimiter.NotEqual)) = Some op.NotEqual
@@ -62,20 +62,20 @@ relational (Some (kind.Delimiter delimiter.Greater)) = Some op.Greater
 relational (Some (kind.Delimiter delimiter.GreaterEqual)) = Some op.GreaterEqual
 relational _ = None
 
--- sign ::= + alt -
+-- sign ::= + | -
 abbrev pub sign : Option Kind → Option Unary
 sign (Some (kind.Delimiter delimiter.Plus)) = Some unary.Plus
 sign (Some (kind.Delimiter delimiter.Minus)) = Some unary.Minus
 sign _ = None
 
--- addop ::= + alt - alt &
+-- adding ::= + | - | &
 abbrev pub adding : Option Kind → Option Operator
 adding (Some (kind.Delimiter delimiter.Plus)) = Some op.Add
 adding (Some (kind.Delimiter delimiter.Minus)) = Some op.Subtract
 adding (Some (kind.Delimiter delimiter.Ampersand)) = Some op.Concatenate
 adding _ = None
 
--- mulop ::= * alt / alt mod alt rem
+-- multiplying ::= * | / | mod | rem
 abbrev pub multiplying : Option Kind → Option Operator
 multiplying (Some (kind.Delimiter delimiter.Star)) = Some op.Multiply
 multiplying (Some (kind.Delimiter delimiter.Slash)) = Some op.Divide
@@ -83,19 +83,19 @@ multiplying (Some (kind.Word reserved.Mod)) = Some op.Mod
 multiplying (Some (kind.Word reserved.Rem)) = Some op.Rem
 multiplying _ = None
 
--- abs alt not
+-- abs | not
 abbrev pub prefix : Option Kind → Option Unary
 prefix (Some (kind.Word reserved.Abs)) = Some unary.Abs
 prefix (Some (kind.Word reserved.Not)) = Some unary.Not
 prefix _ = None
 
--- dir ::= to alt downto
+-- direction ::= to | downto
 abbrev pub direction_of : Option Kind → Option Direction
 direction_of (Some (kind.Word reserved.To)) = Some direction.To
 direction_of (Some (kind.Word reserved.Downto)) = Some direction.Downto
 direction_of _ = None
 
--- CHAR alt STRING alt BITS
+-- CHAR | STRING | BITS
 abbrev pub is_literal : Option Kind → Bool
 is_literal (Some kind.Char) = true
 is_literal (Some kind.Text) = true
@@ -132,37 +132,37 @@ bracketed place (i ∷ j ∷ items) = expr.Aggregate place (i ∷ j ∷ items)
 -- ---- the productions, over the simple expressions that stand one bracket further in
 
 module _ (Simple : List Token → Expr → List Token → Type 0) where
-  -- rel ::= simple [ relop simple ]
+  -- relation ::= simple [ comparison simple ]
   pub data IsRelation : List Token → Expr → List Token → Type 0 where
     plain : {ts us : List Token} {a : Expr} → Simple ts a us → IsRelation ts a us
     compared : {ts us vs : List Token} {a b : Expr} {k : Kind} {x : Span} {o : Operator} → Simple ts a (tok k x ∷ us) → relational (Some k) ≡ Some o → Simple us b vs
         → IsRelation ts (expr.Chain (place_of ts) a (link_of o b ∷ [])) vs
 
-  -- expr ::= rel { and rel } alt rel { or rel } alt rel { xor rel } alt rel { xnor rel } alt rel nand rel alt rel nor rel
+  -- expression ::= relation { and relation } | relation { or relation } | relation { xor relation } | relation { xnor relation } | relation nand relation | relation nor relation
   pub data IsExpression : List Token → Expr → List Token → Type 0 where
     chain : {ts us vs : List Token} {a : Expr} {links : List Link} (o : Operator) → IsRelation ts a us → Operations (again o) link_of IsRelation us links vs
         → IsExpression ts (chained (place_of ts) a links) vs
     once : {ts us vs : List Token} {a b : Expr} {k : Kind} {x : Span} {o : Operator} → IsRelation ts a (tok k x ∷ us) → standing_once (Some k) ≡ Some o → IsRelation us b vs
         → IsExpression ts (expr.Chain (place_of ts) a (link_of o b ∷ [])) vs
 
-  -- choice ::= simple [ dir simple ] alt others
+  -- choice ::= simple [ direction simple ] | others
   pub data IsChoice : List Token → Choice → List Token → Type 0 where
     value : {ts us : List Token} {a : Expr} → Simple ts a us → IsChoice ts (choice.Value a) us
     range : {ts us vs : List Token} {a b : Expr} {k : Kind} {x : Span} {d : Direction} → Simple ts a (tok k x ∷ us) → direction_of (Some k) ≡ Some d → Simple us b vs
         → IsChoice ts (choice.Range a d b) vs
     others : {us : List Token} {x : Span} → IsChoice (word reserved.Others x ∷ us) (choice.Others (word reserved.Others x)) us
 
-  -- choices ::= choice { bar choice }
+  -- choices ::= choice { BAR choice }, where BAR is the delimiter
   abbrev pub IsChoices : List Token → List Choice → List Token → Type 0
   IsChoices = Separated (kind.Delimiter delimiter.Bar) IsChoice
 
-  -- item ::= [ choices => ] expr
+  -- item ::= [ choices => ] expression
   pub data IsItem : List Token → Item → List Token → Type 0 where
     positional : {ts us : List Token} {a : Expr} → IsExpression ts a us → IsItem ts (item_of [] a) us
     named : {ts us vs : List Token} {choices : List Choice} {x : Span} {a : Expr} → IsChoices ts choices (mark delimiter.Arrow x ∷ us) → IsExpression us a vs
         → IsItem ts (item_of choices a) vs
 
-  -- part ::= ( expr ) alt ( simple dir simple ) alt ' id alt ' range
+  -- part ::= ( expression ) | ( simple direction simple ) | ' id | ' range
   pub data IsPart : List Token → Part → List Token → Type 0 where
     index : {ts us : List Token} {x y : Span} {a : Expr} → IsExpression ts a (mark delimiter.RightParen y ∷ us) → IsPart (mark delimiter.LeftParen x ∷ ts) (part.Index a) us
     slice : {ts us vs : List Token} {x y z : Span} {a b : Expr} {k : Kind} {d : Direction} → Simple ts a (tok k z ∷ us) → direction_of (Some k) ≡ Some d
@@ -174,7 +174,7 @@ module _ (Simple : List Token → Expr → List Token → Type 0) where
   pub data IsName : List Token → Name → List Token → Type 0 where
     named : {ts us : List Token} {x : Span} {parts : List Part} → Many IsPart ts parts us → IsName (id x ∷ ts) (name_of (id x) parts) us
 
-  -- prim ::= name alt number alt CHAR alt STRING alt BITS alt ( item { , item } )
+  -- primary ::= name | number | CHAR | STRING | BITS | ( item { , item } )
   -- number ::= INT [ id ]
   pub data IsPrimary : List Token → Expr → List Token → Type 0 where
     name : {ts us : List Token} {n : Name} → IsName ts n us → IsPrimary ts (expr.Name n) us
@@ -184,7 +184,7 @@ module _ (Simple : List Token → Expr → List Token → Type 0) where
     bracket : {ts us : List Token} {x y : Span} {items : List Item} → Separated (kind.Delimiter delimiter.Comma) IsItem ts items (mark delimiter.RightParen y ∷ us)
         → IsPrimary (mark delimiter.LeftParen x ∷ ts) (bracketed x.start items) us
 
-  -- factor ::= prim [ ** prim ] alt abs prim alt not prim
+  -- factor ::= primary [ ** primary ] | abs primary | not primary
   pub data IsFactor : List Token → Expr → List Token → Type 0 where
     plain : {ts us : List Token} {a : Expr} → IsPrimary ts a us → IsFactor ts a us
     power : {ts us vs : List Token} {x : Span} {a b : Expr} → IsPrimary ts a (mark delimiter.DoubleStar x ∷ us) → IsPrimary us b vs
@@ -192,7 +192,7 @@ module _ (Simple : List Token → Expr → List Token → Type 0) where
     prefixed : {ts us : List Token} {k : Kind} {x : Span} {o : Unary} {a : Expr} → prefix (Some k) ≡ Some o → IsPrimary ts a us
         → IsFactor (tok k x ∷ ts) (expr.Unary x.start o a) us
 
-  -- term ::= factor { mulop factor }
+  -- term ::= factor { multiplying factor }
   pub data IsTerm : List Token → Expr → List Token → Type 0 where
     factors : {ts us vs : List Token} {a : Expr} {links : List Link} → IsFactor ts a us → Operations multiplying link_of IsFactor us links vs
         → IsTerm ts (chained (place_of ts) a links) vs
@@ -203,7 +203,7 @@ module _ (Simple : List Token → Expr → List Token → Type 0) where
     signed : {ts us : List Token} {k : Kind} {x : Span} {o : Unary} {a : Expr} → sign (Some k) ≡ Some o → IsTerm ts a us
         → IsSigned (tok k x ∷ ts) (expr.Unary x.start o a) us
 
-  -- simple ::= [ sign ] term { addop term }
+  -- simple ::= [ sign ] term { adding term }
   pub data IsSimple : List Token → Expr → List Token → Type 0 where
     terms : {ts us vs : List Token} {a : Expr} {links : List Link} → IsSigned ts a us → Operations adding link_of IsTerm us links vs
         → IsSimple ts (chained (place_of ts) a links) vs

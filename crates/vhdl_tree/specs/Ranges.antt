@@ -10,7 +10,7 @@ use Rattle.vhdl_tree.specs.declared.declarations.Bounds.TheVariants as bounds
 use Rattle.vhdl_tree.specs.Words.{Span, tok}
 use Rattle.vhdl_tree.specs.Expressions.{Simple, NameOf, direction_of}
 
--- rng ::= simple dir simple alt name
+-- bounds ::= simple direction simple | name
 pub data IsBounds : List Token → Bounds → List Token → Type 0 where
   range : {ts us vs : List Token} {a b : Expr} {k : Kind} {x : Span} {d : Direction} → Simple ts a (tok k x ∷ us) → direction_of (Some k) ≡ Some d → Simple us b vs
       → IsBounds ts (bounds.Range a d b) vs

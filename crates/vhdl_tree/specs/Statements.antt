@@ -56,7 +56,7 @@ loop_of s statements name = roll-Loop (record { scheme = s; statements = stateme
 
 -- ---- what holds no statements
 
--- [ delay ], where delay ::= transport alt [ reject expr ] inertial
+-- [ delay ], where delay ::= transport | [ reject expression ] inertial
 pub data IsDelay : List Token → Delay → List Token → Type 0 where
   absent : {ts : List Token} → IsDelay ts delay.Inertial ts
   transport : {us : List Token} {x : Span} → IsDelay (word reserved.Transport x ∷ us) delay.Transport us
@@ -64,12 +64,12 @@ pub data IsDelay : List Token → Delay → List Token → Type 0 where
       → IsDelay (word reserved.Reject x ∷ ts) (delay.Reject a) us
   inertial : {us : List Token} {x : Span} → IsDelay (word reserved.Inertial x ∷ us) delay.Inertial us
 
--- elem ::= expr [ after expr ]
+-- element ::= expression [ after expression ]
 pub data IsElement : List Token → Element → List Token → Type 0 where
   element : {ts us vs : List Token} {a : Expr} {after : Option Expr} → Expression ts a us → Perhaps (kind.Word reserved.After) Expression us after vs
       → IsElement ts (record { value = a; after = after }) vs
 
--- wave ::= elem { , elem }
+-- waveform ::= element { , element }
 abbrev pub IsWaveform : List Token → List Element → List Token → Type 0
 IsWaveform = Separated (kind.Delimiter delimiter.Comma) IsElement
 
@@ -82,7 +82,7 @@ pub data IsOn : List Token → List Name → List Token → Type 0 where
   absent : {ts : List Token} → IsOn ts [] ts
   names : {ts us : List Token} {x : Span} {all : List Name} → IsNames ts all us → IsOn (word reserved.On x ∷ ts) all us
 
--- waits ::= wait [ on names ] [ until expr ] [ for expr ] ;
+-- wait [ on names ] [ until expression ] [ for expression ] ;
 pub data IsWait : List Token → Wait → List Token → Type 0 where
   wait : {ts us vs ws : List Token} {x y : Span} {names : List Name} {until time : Option Expr} → IsOn ts names us
       → Perhaps (kind.Word reserved.Until) Expression us until vs → Perhaps (kind.Word reserved.For) Expression vs time (mark delimiter.Semicolon y ∷ ws)
@@ -92,36 +92,36 @@ pub data IsWait : List Token → Wait → List Token → Type 0 where
 abbrev pub IsSeverity : List Token → Option Token → List Token → Type 0
 IsSeverity = Perhaps (kind.Word reserved.Severity) (IsToken kind.Identifier)
 
--- asserts ::= assert expr [ report STRING ] [ severity id ] ;
+-- assert expression [ report STRING ] [ severity id ] ;
 pub data IsAssertion : List Token → Assertion → List Token → Type 0 where
   assertion : {ts us vs ws : List Token} {x y : Span} {a : Expr} {text severity : Option Token} → Expression ts a us
       → Perhaps (kind.Word reserved.Report) (IsToken kind.Text) us text vs → IsSeverity vs severity (mark delimiter.Semicolon y ∷ ws)
       → IsAssertion (word reserved.Assert x ∷ ts) (record { condition = a; text = text; severity = severity }) ws
 
--- reports ::= report STRING [ severity id ] ;
+-- report STRING [ severity id ] ;
 pub data IsReport : List Token → Report → List Token → Type 0 where
   report : {ts us : List Token} {x y z : Span} {severity : Option Token} → IsSeverity ts severity (mark delimiter.Semicolon z ∷ us)
       → IsReport (word reserved.Report x ∷ tok kind.Text y ∷ ts) (record { text = tok kind.Text y; severity = severity }) us
 
--- sassign ::= name <= [ delay ] wave ;
+-- name <= [ delay ] waveform ;
 pub data IsSignalAssignment : List Token → SignalAssignment → List Token → Type 0 where
   assigned : {ts us vs ws : List Token} {x y : Span} {n : Name} {d : Delay} {all : List Element} → NameOf ts n (mark delimiter.LessEqual x ∷ us)
       → IsDelay us d vs → IsWaveform vs all (mark delimiter.Semicolon y ∷ ws)
       → IsSignalAssignment ts (record { target = n; delay = d; waveform = all }) ws
 
--- vassign ::= name := expr ;
+-- name := expression ;
 pub data IsVariableAssignment : List Token → VariableAssignment → List Token → Type 0 where
   assigned : {ts us vs : List Token} {x y : Span} {n : Name} {a : Expr} → NameOf ts n (mark delimiter.Assign x ∷ us)
       → Expression us a (mark delimiter.Semicolon y ∷ vs) → IsVariableAssignment ts (record { target = n; value = a }) vs
 
--- nexts ::= next [ id ] [ when expr ] ;
--- exits ::= exit [ id ] [ when expr ] ;
+-- next [ id ] [ when expression ] ;
+-- exit [ id ] [ when expression ] ;
 pub data IsJump (w : Reserved) : List Token → Jump → List Token → Type 0 where
   jump : {ts us vs : List Token} {x y : Span} {label : Option Token} {condition : Option Expr} → IsOptional kind.Identifier ts label us
       → Perhaps (kind.Word reserved.When) Expression us condition (mark delimiter.Semicolon y ∷ vs)
       → IsJump w (word w x ∷ ts) (record { word = word w x; label = label; condition = condition }) vs
 
--- [ while expr alt for id in rng ]
+-- [ scheme ], where scheme ::= while expression | for id in bounds
 pub data IsScheme : List Token → Scheme → List Token → Type 0 where
   forever : {ts : List Token} → IsScheme ts scheme.Forever ts
   while_ : {ts us : List Token} {x : Span} {a : Expr} → Expression ts a us → IsScheme (word reserved.While x ∷ ts) (scheme.While a) us
@@ -136,23 +136,23 @@ pub data IsEnd (w : Reserved) : List Token → Option Token → List Token → T
 -- ---- the productions that hold statements, over the lists of statements that stand one statement further in
 
 module _ (Statements : List Token → List Statement → List Token → Type 0) where
-  -- expr then { stmt }
+  -- expression then { statement }
   pub data IsElsif : List Token → Elsif → List Token → Type 0 where
     elsif_ : {ts us vs : List Token} {x : Span} {a : Expr} {all : List Statement} → Expression ts a (word reserved.Then x ∷ us) → Statements us all vs
         → IsElsif ts (elsif_of a all) vs
 
-  -- [ else { stmt } ]
+  -- [ else { statement } ]
   pub data IsElse : List Token → List Statement → List Token → Type 0 where
     absent : {ts : List Token} → IsElse ts [] ts
     otherwise : {ts us : List Token} {x : Span} {all : List Statement} → Statements ts all us → IsElse (word reserved.Else x ∷ ts) all us
 
-  -- ifs ::= if expr then { stmt } { elsif expr then { stmt } } [ else { stmt } ] end if [ id ] ;
+  -- if expression then { statement } { elsif expression then { statement } } [ else { statement } ] end if [ id ] ;
   pub data IsIf : List Token → If → List Token → Type 0 where
     if_ : {ts us vs ws xs ys : List Token} {x y : Span} {a : Expr} {all rest : List Statement} {elsifs : List Elsif} {name : Option Token}
         → Expression ts a (word reserved.Then y ∷ us) → Statements us all vs → Preceded (kind.Word reserved.Elsif) IsElsif vs elsifs ws
         → IsElse ws rest xs → IsEnd reserved.If xs name ys → IsIf (word reserved.If x ∷ ts) (if_of a all elsifs rest name) ys
 
-  -- arm ::= when choices => { stmt }
+  -- arm ::= when choices => { statement }
   pub data IsArm : List Token → Arm → List Token → Type 0 where
     arm : {ts us vs : List Token} {x y : Span} {choices : List Choice} {all : List Statement} → Choices ts choices (mark delimiter.Arrow y ∷ us)
         → Statements us all vs → IsArm (word reserved.When x ∷ ts) (arm_of choices all) vs
@@ -161,17 +161,17 @@ module _ (Statements : List Token → List Statement → List Token → Type 0) 
   pub data IsArms : List Token → List Arm → List Token → Type 0 where
     several : {ts us vs : List Token} {a : Arm} {all : List Arm} → IsArm ts a us → Many IsArm us all vs → IsArms ts (a ∷ all) vs
 
-  -- cases ::= case expr is arm { arm } end case [ id ] ;
+  -- case expression is arm { arm } end case [ id ] ;
   pub data IsCase : List Token → Case → List Token → Type 0 where
     case_ : {ts us vs ws : List Token} {x y : Span} {a : Expr} {arms : List Arm} {name : Option Token} → Expression ts a (word reserved.Is y ∷ us)
         → IsArms us arms vs → IsEnd reserved.Case vs name ws → IsCase (word reserved.Case x ∷ ts) (case_of a arms name) ws
 
-  -- loops ::= [ while expr alt for id in rng ] loop { stmt } end loop [ id ] ;
+  -- [ scheme ] loop { statement } end loop [ id ] ;
   pub data IsLoop : List Token → Loop → List Token → Type 0 where
     loop_ : {ts us vs ws : List Token} {x : Span} {s : Scheme} {all : List Statement} {name : Option Token}
         → IsScheme ts s (word reserved.Loop x ∷ us) → Statements us all vs → IsEnd reserved.Loop vs name ws → IsLoop ts (loop_of s all name) ws
 
-  -- body ::= waits alt asserts alt reports alt sassign alt vassign alt ifs alt cases alt loops alt nexts alt exits alt null ;
+  -- statement_body: one of the statements above, or null ;
   pub data IsBody : List Token → Body → List Token → Type 0 where
     wait : {ts us : List Token} {a : Wait} → IsWait ts a us → IsBody ts (body.Wait a) us
     assertion : {ts us : List Token} {a : Assertion} → IsAssertion ts a us → IsBody ts (body.Assert a) us
@@ -185,7 +185,7 @@ module _ (Statements : List Token → List Statement → List Token → Type 0) 
     exit : {ts us : List Token} {a : Jump} → IsJump reserved.Exit ts a us → IsBody ts (body.Exit a) us
     null : {us : List Token} {x y : Span} → IsBody (word reserved.Null x ∷ mark delimiter.Semicolon y ∷ us) body.Null us
 
-  -- stmt ::= [ id : ] body
+  -- statement ::= [ id : ] statement_body
   pub data IsStatement : List Token → Statement → List Token → Type 0 where
     unlabelled : {ts us : List Token} {b : Body} → IsBody ts b us → IsStatement ts (statement_of (line_of ts) None b) us
     labelled : {ts us : List Token} {x y : Span} {b : Body} → IsBody ts b us
@@ -193,7 +193,7 @@ module _ (Statements : List Token → List Statement → List Token → Type 0) 
 
 -- ---- without the parameter: statements that nest less deep than a number, and then any
 
--- { stmt }
+-- { statement }
 abbrev pub StatementsWithin : ℕ → List Token → List Statement → List Token → Type 0
 StatementsWithin zero ts all us = ⊥
 StatementsWithin (suc depth) ts all us = Many (IsStatement (StatementsWithin depth)) ts all us

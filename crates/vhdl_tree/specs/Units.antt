@@ -49,14 +49,14 @@ pub data IsPostponed : List Token → Bool → List Token → Type 0 where
   absent : {ts : List Token} → IsPostponed ts false ts
   present : {us : List Token} {x : Span} → IsPostponed (word reserved.Postponed x ∷ us) true us
 
--- [ ( group( all alt names ) ) ]
+-- [ ( sensitivity ) ], where sensitivity ::= all | names
 pub data IsSensitivity : List Token → Sensitivity → List Token → Type 0 where
   unlisted : {ts : List Token} → IsSensitivity ts sensitivity.Unlisted ts
   all : {us : List Token} {x y z : Span} → IsSensitivity (mark delimiter.LeftParen x ∷ word reserved.All y ∷ mark delimiter.RightParen z ∷ us) sensitivity.All us
   names : {ts us : List Token} {x y : Span} {all : List Name} → IsNames ts all (mark delimiter.RightParen y ∷ us)
       → IsSensitivity (mark delimiter.LeftParen x ∷ ts) (sensitivity.Names all) us
 
--- proc ::= process [ ( group( all alt names ) ) ] [ is ] { pdecl } begin { stmt } end [ postponed ] process [ id ] ;
+-- process_stmt ::= process [ ( sensitivity ) ] [ is ] { process_decl } begin { statement } end [ postponed ] process [ id ] ;
 pub data IsProcess (postponed : Bool) : List Token → Process → List Token → Type 0 where
   process : {ts us vs ws xs ys zs : List Token} {x y z u v : Span} {s : Sensitivity} {body again end_name : Option Token} {declarations : List Declaration} {statements : List Statement}
       → IsSensitivity ts s us → IsOptional (kind.Word reserved.Is) us body vs → Many IsProcessDeclaration vs declarations (word reserved.Begin y ∷ ws)
@@ -65,12 +65,12 @@ pub data IsProcess (postponed : Bool) : List Token → Process → List Token �
       → IsProcess postponed (word reserved.Process x ∷ ts)
       (record { postponed = postponed; sensitivity = s; declarations = declarations; statements = statements; end_name = end_name }) zs
 
--- when expr else wave
+-- when expression else waveform
 pub data IsAlternative : List Token → Alternative → List Token → Type 0 where
   otherwise : {ts us vs : List Token} {x y : Span} {a : Expr} {all : List Element} → Expression ts a (word reserved.Else y ∷ us) → IsWaveform us all vs
       → IsAlternative (word reserved.When x ∷ ts) (record { condition = a; otherwise = all }) vs
 
--- cassign ::= name <= [ delay ] wave { when expr else wave } [ when expr ] ;
+-- assignment ::= name <= [ delay ] waveform { when expression else waveform } [ when expression ] ;
 pub data IsConcurrentAssignment (postponed : Bool) : List Token → ConcurrentAssignment → List Token → Type 0 where
   assigned : {ts us vs ws xs ys : List Token} {x y : Span} {n : Name} {d : Delay} {all : List Element} {alternatives : List Alternative} {condition : Option Expr}
       → NameOf ts n (mark delimiter.LessEqual x ∷ us) → IsDelay us d vs → IsWaveform vs all ws → Many IsAlternative ws alternatives xs
@@ -85,17 +85,17 @@ pub data IsFormal : List Token → Option Token → List Token → Type 0 where
   absent : {ts : List Token} → IsFormal ts None ts
   present : {us : List Token} {x y : Span} → IsFormal (id x ∷ mark delimiter.Arrow y ∷ us) (Some (id x)) us
 
--- expr alt open
+-- actual ::= expression | open
 pub data IsActual : List Token → Actual → List Token → Type 0 where
   value : {ts us : List Token} {a : Expr} → Expression ts a us → IsActual ts (actual.Expr a) us
   open_ : {us : List Token} {x : Span} → IsActual (word reserved.Open x ∷ us) (actual.Open (word reserved.Open x)) us
 
--- assoc ::= [ id => ] group( expr alt open )
+-- association ::= [ id => ] actual
 pub data IsAssociation : List Token → Association → List Token → Type 0 where
   associated : {ts us vs : List Token} {formal : Option Token} {a : Actual} → IsFormal ts formal us → IsActual us a vs
       → IsAssociation ts (record { formal = formal; actual = a }) vs
 
--- assocs ::= assoc { , assoc }
+-- associations ::= association { , association }
 abbrev pub IsAssociations : List Token → List Association → List Token → Type 0
 IsAssociations = Separated (kind.Delimiter delimiter.Comma) IsAssociation
 
@@ -115,7 +115,7 @@ pub data IsArchitectureName : List Token → Option Token → List Token → Typ
   absent : {ts : List Token} → IsArchitectureName ts None ts
   present : {us : List Token} {x y z : Span} → IsArchitectureName (mark delimiter.LeftParen x ∷ id y ∷ mark delimiter.RightParen z ∷ us) (Some (id y)) us
 
--- inst ::= entity [ id . ] id [ ( id ) ] [ generic map ( assocs ) ] [ port map ( assocs ) ] ;
+-- instance ::= entity [ id . ] id [ ( id ) ] [ generic map ( associations ) ] [ port map ( associations ) ] ;
 pub data IsInstantiation : List Token → Instantiation → List Token → Type 0 where
   instance : {ts us vs ws xs : List Token} {x y z : Span} {library architecture : Option Token} {generics ports : List Association}
       → IsLibrary ts library (id y ∷ us) → IsArchitectureName us architecture vs → IsMap reserved.Generic vs generics ws
@@ -128,7 +128,7 @@ pub data IsInstantiation : List Token → Instantiation → List Token → Type 
 abbrev pub concurrent_of : List Token → Option Token → ConcurrentBody → Concurrent
 concurrent_of ts label body = record { line = line_of ts; label = label; body = body }
 
--- conc ::= [ id : ] [ postponed ] group( proc alt cassign ) alt id : inst
+-- concurrent ::= [ id : ] [ postponed ] process_stmt | [ id : ] [ postponed ] assignment | id : instance
 pub data IsConcurrent : List Token → Concurrent → List Token → Type 0 where
   process : {ts us vs ws : List Token} {label : Option Token} {postponed : Bool} {p : Process} → IsLabel ts label us → IsPostponed us postponed vs
       → IsProcess postponed vs p ws → IsConcurrent ts (concurrent_of ts label (concurrent_body.Process p)) ws
@@ -139,7 +139,7 @@ pub data IsConcurrent : List Token → Concurrent → List Token → Type 0 wher
 
 -- ---- units
 
--- arch ::= architecture id of id is { decl } begin { conc } end [ architecture ] [ id ] ;
+-- architecture_body ::= architecture id of id is { block_decl } begin { concurrent } end [ architecture ] [ id ] ;
 pub data IsArchitecture : List Token → Architecture → List Token → Type 0 where
   architecture : {ts us vs ws xs : List Token} {x y z u v w t s : Span} {declarations : List Declaration} {statements : List Concurrent} {class end_name : Option Token}
       → Many IsDeclaration ts declarations (word reserved.Begin w ∷ us) → Many IsConcurrent us statements (word reserved.End t ∷ vs)
@@ -147,12 +147,12 @@ pub data IsArchitecture : List Token → Architecture → List Token → Type 0 
       → IsArchitecture (word reserved.Architecture x ∷ id y ∷ word reserved.Of z ∷ id u ∷ word reserved.Is v ∷ ts)
       (record { line = x.line; name = id y; entity = id u; declarations = declarations; statements = statements; end_name = end_name }) xs
 
--- id alt all
+-- suffix ::= id | all
 pub data IsSuffix : List Token → Token → List Token → Type 0 where
   identifier : {us : List Token} {x : Span} → IsSuffix (id x ∷ us) (id x) us
   all : {us : List Token} {x : Span} → IsSuffix (word reserved.All x ∷ us) (word reserved.All x) us
 
--- context ::= library ids ; alt use id . id . group( id alt all ) ;
+-- context_item ::= library ids ; | use id . id . suffix ;
 pub data IsContext : List Token → ContextClause → List Token → Type 0 where
   library : {ts us : List Token} {x y : Span} {names : List Token} → Identifiers ts names (mark delimiter.Semicolon y ∷ us)
       → IsContext (word reserved.Library x ∷ ts) (context_clause.Library names) us
@@ -160,17 +160,17 @@ pub data IsContext : List Token → ContextClause → List Token → Type 0 wher
       → IsContext (word reserved.Use x ∷ id y ∷ mark delimiter.Dot z ∷ id u ∷ mark delimiter.Dot v ∷ ts)
       (context_clause.Use (record { library = id y; «package» = id u; suffix = suffix })) us
 
--- ent alt arch
+-- library_unit ::= entity_decl | architecture_body
 pub data IsLibraryUnit : List Token → LibraryUnit → List Token → Type 0 where
   entity : {ts us : List Token} {e : Entity} → IsEntity ts e us → IsLibraryUnit ts (library_unit.Entity e) us
   architecture : {ts us : List Token} {a : Architecture} → IsArchitecture ts a us → IsLibraryUnit ts (library_unit.Architecture a) us
 
--- unit ::= { context } group( ent alt arch )
+-- design_unit ::= { context_item } library_unit
 pub data IsDesignUnit : List Token → DesignUnit → List Token → Type 0 where
   unit : {ts us vs : List Token} {context : List ContextClause} {u : LibraryUnit} → Many IsContext ts context us → IsLibraryUnit us u vs
       → IsDesignUnit ts (record { context = context; unit = u }) vs
 
--- file ::= unit { unit }
+-- design_file ::= design_unit { design_unit }
 pub data IsDesignFile : List Token → DesignFile → List Token → Type 0 where
   units : {ts us vs : List Token} {first : DesignUnit} {more : List DesignUnit} → IsDesignUnit ts first us → Many IsDesignUnit us more vs
       → IsDesignFile ts (record { units = first ∷ more }) vs

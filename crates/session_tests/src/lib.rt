@@ -11,6 +11,8 @@ mod excused;
 #[cfg(test)]
 mod expressions;
 #[cfg(test)]
+mod long_lists;
+#[cfg(test)]
 mod meanings;
 #[cfg(test)]
 mod met;

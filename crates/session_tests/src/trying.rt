@@ -11,9 +11,11 @@ use vhdl_units::Units;
 /// The number of the rule, and a text with `^` before the place where it is broken first.
 pub type Refused = (u8, &'static str);
 
-// Whether a text without its mark breaks this rule first, at the place of the mark.
-fn is_broken(alloc: Global, rule: u8, marked: &'static str) -> Result<bool, Fail> {
-    let (before, behind) = marked.split_once('^').ok_or(marked)?;
+/// Whether a text without its mark breaks this rule first, at the place of the mark.
+pub fn is_broken(alloc: Global, rule: u8, marked: &str) -> Result<bool, Fail> {
+    let Some((before, behind)) = marked.split_once('^') else {
+        return Ok(false);
+    };
     let text = format!(in alloc; "{before}{behind}")?;
     if text.len() > 1_048_576 {
         return Ok(false);
@@ -35,8 +37,8 @@ pub fn refuses(alloc: Global, table: &[Refused]) -> Result<(), Fail> {
     Ok(())
 }
 
-// Whether a text breaks no rule: it is run, or it is of no form that can be run.
-fn is_met(alloc: Global, text: &'static str) -> bool {
+/// Whether a text breaks no rule: it is run, or it is of no form that can be run.
+pub fn is_met(alloc: Global, text: &str) -> bool {
     if text.len() > 1_048_576 {
         return false;
     }

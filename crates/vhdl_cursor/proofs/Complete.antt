@@ -4,7 +4,8 @@ use Rattle.vhdl_tokens.specs.declared.token.Kind.{Kind}
 use Rattle.vhdl_tokens.specs.declared.token.Token.{Token}
 use Rattle.vhdl_tree.specs.Words.{Span, tok, kind_of, place_of, line_of}
 use Rattle.vhdl_tree.specs.Lists.{Many, Preceded, Separated, Operations, Perhaps, IsToken, IsOptional}
-use Rattle.vhdl_cursor.specs.Steps.{Answer, Found, Stopped, Spent, Parser, sees, and_then, ◌>>=◌, pure, spent, on, choose, choose_by, look, here, on_line, word, any, token, optional, many_from, preceded_from, separated, operations_from, perhaps}
+use Rattle.vhdl_cursor.specs.Steps.{Answer, Found, Stopped, Spent, Parser, sees, and_then, ◌>>=◌, pure, spent, on, choose, choose_by, look, here, on_line, word, any, token, optional, many_from, preceded_from, operations_from, perhaps}
+use Rattle.vhdl_cursor.proofs.SeparatedReader.{separated}
 use Rattle.vhdl_cursor.proofs.NextToken.{same_self}
 use Rattle.vhdl_cursor.proofs.Local.{IsFine, Law}
 

@@ -4,7 +4,8 @@ use Rattle.vhdl_tokens.specs.declared.token.Kind.{Kind}
 use Rattle.vhdl_tokens.specs.declared.token.Token.{Token}
 use Rattle.vhdl_tree.specs.Words.{Span, tok}
 use Rattle.vhdl_tree.specs.Lists.{Many, Preceded, Separated, Operations}
-use Rattle.vhdl_cursor.specs.Steps.{Parser, ◌>>=◌, pure, many_from, preceded_from, separated, operations_from}
+use Rattle.vhdl_cursor.specs.Steps.{Parser, ◌>>=◌, pure, many_from, preceded_from, operations_from}
+use Rattle.vhdl_cursor.proofs.SeparatedReader.{separated}
 use Rattle.vhdl_cursor.proofs.Fronts.{State, LeadsTo, Some_of, Viable, none_before, start_f, call_f, bind_f, before_f, after_f, known_f, pure_f, spent_f, on_f, choose_f, look_f}
 use Rattle.vhdl_cursor.proofs.SoundLists.{many_snoc, preceded_snoc, separated_snoc, operations_snoc}
 

@@ -5,6 +5,7 @@ pub mod Fronts
 pub mod Local
 pub mod Loops
 pub mod NextToken
+pub mod SeparatedReader
 pub mod Sound
 pub mod SoundLists
 pub mod Whole

@@ -3,7 +3,8 @@ use Rattle.std.proofs.Common.{◌≡◌, ℕ, zero, suc, ◌-◌, ◌<◌, ◌�
 use Rattle.vhdl_tokens.specs.declared.token.Kind.{Kind}
 use Rattle.vhdl_tokens.specs.declared.token.Token.{Token}
 use Rattle.vhdl_tree.specs.Words.{kind_of, place_of, line_of}
-use Rattle.vhdl_cursor.specs.Steps.{Answer, Found, Stopped, Spent, Parser, next, sees, and_then, ◌>>=◌, pure, stop, on, choose, choose_by, look, here, on_line, word, any, token, many_from, preceded_from, separated, operations_from}
+use Rattle.vhdl_cursor.specs.Steps.{Answer, Found, Stopped, Spent, Parser, next, sees, and_then, ◌>>=◌, pure, stop, on, choose, choose_by, look, here, on_line, word, any, token, many_from, preceded_from, operations_from}
+use Rattle.vhdl_cursor.proofs.SeparatedReader.{separated}
 use Rattle.vhdl_cursor.proofs.NextToken.{first_kind}
 use Rattle.vhdl_cursor.proofs.Local.{LawAt, Law, at, law_of, law_down, like, bind_at, bind_law, on_at, choose_at, shrinks, next_less, choose_less, pure_law, any_law, word_law, token_law}
 

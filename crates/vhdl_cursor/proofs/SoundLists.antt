@@ -4,7 +4,8 @@ use Rattle.vhdl_tokens.specs.declared.token.Kind.{Kind}
 use Rattle.vhdl_tokens.specs.declared.token.Token.{Token}
 use Rattle.vhdl_tree.specs.Words.{Span, tok}
 use Rattle.vhdl_tree.specs.Lists.{Many, Preceded, Separated, Operations}
-use Rattle.vhdl_cursor.specs.Steps.{Parser, ◌>>=◌, pure, many_from, preceded_from, separated, operations_from}
+use Rattle.vhdl_cursor.specs.Steps.{Parser, ◌>>=◌, pure, many_from, preceded_from, operations_from}
+use Rattle.vhdl_cursor.proofs.SeparatedReader.{separated}
 use Rattle.vhdl_cursor.proofs.Sound.{Triple, Sound, start_t, call_t, bind_t, before_t, pure_t, spent_t, on_t, choose_t, look_t}
 
 -- ---- one more at the end of a list

@@ -108,10 +108,6 @@ unfoldable pub preceded_from : {A : Type 0} → ℕ → Kind → Parser A → Li
 preceded_from zero w p found = spent
 preceded_from (suc n) w p found = on w (do a ← p; preceded_from n w p (found ++ a ∷ [])) (pure found)
 
--- x { w x }
-abbrev pub separated : {A : Type 0} → ℕ → Kind → Parser A → Parser (List A)
-separated n w p = do a ← p; preceded_from n w p (a ∷ [])
-
 -- { op x }
 unfoldable pub operations_from : {O A B : Type 0} → ℕ → (Option Kind → Option O) → (O → A → B) → Parser A → List B → Parser (List B)
 operations_from zero table make p found = spent

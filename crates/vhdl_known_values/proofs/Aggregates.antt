@@ -9,7 +9,7 @@ use Rattle.vhdl_known_values.proofs.OfType.{type_aggregate, type_between, type_i
 use Rattle.vhdl_known_values.proofs.Operands.{holds_element}
 use Rattle.vhdl_known_values.proofs.Settles.{item_settled, open_aggregate, settled_own, static_with, types_with}
 use Rattle.vhdl_known_values.specs.Known.{all_known, known_choice, known_item, known_value}
-use Rattle.vhdl_known_values.specs.Lists.{ChoicesTell, ItemTells, ItemsTell}
+use Rattle.vhdl_known_values.proofs.ListsTell.{ChoicesTell, ItemTells, ItemsTell}
 use Rattle.vhdl_known_values.specs.Meanings.{ChoiceTells}
 use Rattle.vhdl_known_values.specs.Tells.{Agrees, Tells}
 use Rattle.vhdl_known_values.specs.Typed.{HasType, all_of, is_integer_choice, is_item_of, type_of}

@@ -11,7 +11,7 @@ use Rattle.vhdl_known_values.proofs.Operands.{is_typed, operand_has, some_type, 
 use Rattle.vhdl_known_values.proofs.Related.{Both, own_type, related_both}
 use Rattle.vhdl_known_values.proofs.Settles.{link_settled, open_chain, settled_own, settled_types, static_with, types_with}
 use Rattle.vhdl_known_values.specs.Known.{all_known, known_link, known_value}
-use Rattle.vhdl_known_values.specs.Lists.{LinksTell}
+use Rattle.vhdl_known_values.proofs.ListsTell.{LinksTell}
 use Rattle.vhdl_known_values.specs.Tells.{Agrees, Tells}
 use Rattle.vhdl_known_values.specs.Typed.{HasType, are_same, has_type, sides_fit, type_of, type_of_link}
 use Rattle.vhdl_meaning.specs.Operators.{chain, chain_by, chain_types, link_is_static, related, relation_of}

@@ -2,7 +2,7 @@
 use Rattle.std.proofs.Common.{◌≡◌, ℕ, Bool, true, false, ◌&&◌, if◌then◌else◌, Option, Some, None, List, [], ◌∷◌, ◌++◌, map, refl, ap, sym, ◌∙◌}
 use Rattle.vhdl_known_values.specs.Flags.{FlagsAre, flags, tested_static}
 use Rattle.vhdl_known_values.specs.Meanings.{part_is_static}
-use Rattle.vhdl_known_values.specs.Names.{Begins, IsValueOf, Means, PartTells, PartsTell}
+use Rattle.vhdl_known_values.proofs.NamesTell.{Begins, IsValueOf, Means, PartTells, PartsTell}
 use Rattle.vhdl_known_values.specs.Tells.{Tells}
 use Rattle.vhdl_known_values.proofs.Faults.{Fine, asked_static}
 use Rattle.vhdl_known_values.proofs.Free.{both_empty, no_break}

@@ -1,3 +1,5 @@
+pub mod ListsTell
+pub mod NamesTell
 pub mod Settles
 pub mod Knows
 pub mod OfType

@@ -3,7 +3,7 @@ use Rattle.std.proofs.Common.{◌≡◌, ℕ, Bool, true, false, ◌&&◌, List,
 use Rattle.std.proofs.Math.Bool.{and-true}
 use Rattle.vhdl_known_values.specs.Known.{known_range, known_value}
 use Rattle.vhdl_known_values.specs.Meanings.{IsObject, NameTells, ObjectNamed, bounds_are_static}
-use Rattle.vhdl_known_values.specs.Names.{Begins, IsLiterals, IsOne, IsRange, IsValueOf, Means, NameMeans, PartsTell}
+use Rattle.vhdl_known_values.proofs.NamesTell.{Begins, IsLiterals, IsOne, IsRange, IsValueOf, Means, NameMeans, PartsTell}
 use Rattle.vhdl_known_values.specs.Tells.{Agrees, Tells}
 use Rattle.vhdl_known_values.specs.Typed.{type_of}
 use Rattle.vhdl_known_values.proofs.Free.{both_empty, no_break}

@@ -4,7 +4,7 @@ use Rattle.std.proofs.Math.Bool.{and-true, and_assoc}
 use Rattle.std.proofs.lemmas.Bool.{and_from, and_parts}
 use Rattle.std.specs.List.{list_all}
 use Rattle.vhdl_known_values.specs.Known.{all_known, known_part, known_value}
-use Rattle.vhdl_known_values.specs.Names.{Begins, IsOne, IsRange, IsValueOf, Means, PartTells, PartsTell}
+use Rattle.vhdl_known_values.proofs.NamesTell.{Begins, IsOne, IsRange, IsValueOf, Means, PartTells, PartsTell}
 use Rattle.vhdl_known_values.specs.Meanings.{IsObject, bounds_are_static, flag_of, part_is_static}
 use Rattle.vhdl_known_values.specs.Tells.{Tells}
 use Rattle.vhdl_known_values.specs.Typed.{HasType, given_by, type_with}

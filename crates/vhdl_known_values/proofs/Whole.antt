@@ -1,9 +1,9 @@
 -- Whole expressions and names mean what they tell: by induction over all that stands in them.
 use Rattle.std.proofs.Common.{◌≡◌, ℕ, List, [], ◌∷◌, map, refl, subst}
 use Rattle.vhdl_known_values.specs.Flags.{FlagsAre, tested_static}
-use Rattle.vhdl_known_values.specs.Lists.{ChoicesTell, ItemTells, ItemsTell, LinkTells, LinksTell}
+use Rattle.vhdl_known_values.proofs.ListsTell.{ChoicesTell, ItemTells, ItemsTell, LinkTells, LinksTell}
 use Rattle.vhdl_known_values.specs.Meanings.{BoundsTell, ChoiceTells, HasMeanings}
-use Rattle.vhdl_known_values.specs.Names.{NameMeans, PartTells, PartsTell}
+use Rattle.vhdl_known_values.proofs.NamesTell.{NameMeans, PartTells, PartsTell}
 use Rattle.vhdl_known_values.specs.Tells.{Tells}
 use Rattle.vhdl_known_values.proofs.Aggregates.{aggregate_tells, item_tells}
 use Rattle.vhdl_known_values.proofs.Chains.{chain_tells}

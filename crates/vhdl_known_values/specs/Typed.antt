@@ -2,7 +2,7 @@
 -- all that stands in it has the type that its place asks: an index and the bounds of a slice are of INTEGER, an argument is of the
 -- type that its function or attribute takes, the operand of an operator before one is of the type of the whole, the sides of a
 -- relation are of one type, the characters of a string are literals of its element type, and the elements of an aggregate are of that
--- of its array.
+-- of its array. An operand in a row of operators that isn't a relation has some type, whichever it is.
 use Rattle.std.specs.List.{list_all}
 use Rattle.std.specs.Prelude.{Bool, List, None, Option, Some, [], false, if◌then◌else◌, is_some, true, ◌&&◌, ◌≡◌, ◌∷◌}
 use Rattle.vhdl_meaning.specs.Attributes.{attribute_type}

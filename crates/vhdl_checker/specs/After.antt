@@ -50,7 +50,8 @@ entity_ended word a = in_library word (length a.interfaces) (record a {
 
 -- ---- architectures
 
--- The region of an entity is lent to its architecture, and an empty one stands in its place until it is given back.
+-- An entity and its architecture are one declarative region (12.1), so the architecture goes on in the entity's. That is lent to it, and an
+-- empty one stands in its place until it is given back as it was: nothing looks there meanwhile, and the region has one owner.
 unfoldable pub lent : Option ℕ → List (List Named) → List Named
 lent (Some n) bases = slice_index_or bases n []
 lent None bases = []

@@ -334,15 +334,6 @@ impl Surroundings {
 
     // ---- entities and architectures
 
-    /// Adds a unit to the library.
-    #[tactic(auto, unfolding(crate::specs::After::in_library))]
-    pub(crate) fn add_unit(&mut self, name: String, number: usize) -> Result<(), AllocError>
-        ensures { OnOk result (self.new ≡ after.in_library (string_bytes name) number self.old) }
-    {
-        self.library.add(name, Entry::Label(number))?;
-        Ok(())
-    }
-
     /// An entity begins.
     #[tactic(auto, unfolding(crate::specs::After::entity_begun))]
     pub(crate) fn begin_entity(&mut self, alloc: Global) -> Result<(), AllocError>

@@ -11,7 +11,7 @@ use vhdl_units::{ChoiceValue, PartValue, Reference, Value};
 #[cycle(candidate)]
 #[derive(Drop)]
 pub struct Candidate {
-    /// The types that it can have, each once.
+    /// The types that it can have.
     pub types: Items<BaseType>,
     /// Whether it is globally static (9.4.3).
     pub is_static: bool,

@@ -54,7 +54,9 @@ pub(crate) fn first_of(faults: &[Fault]) -> Option<Fault>
 /// Why a design file has no resolved units: the static rule that it breaks first, or want of memory.
 #[derive(Clone, Copy, Debug, PartialEq, Eq)]
 pub enum StaticError {
+    /// The rule that is broken first, and the place.
     Static(Fault),
+    /// Want of memory.
     NoMemory,
 }
 

@@ -314,7 +314,6 @@ pub fn standard(alloc: Global) -> Result<Region, AllocError>
 }
 
 /// The types and subtypes that are always visible are numbered in their order, from 0.
-
 pub fn standard_numbers()
     ensures { numbers standard ≡ count_up STANDARD_MARKS }
 {}

@@ -28,18 +28,21 @@ impl Model for Declared {
 }
 
 impl Declared {
+    /// A declaration of this entry by this name.
     pub fn new(name: String, entry: Entry) -> Declared
         ensures { result ≡ record { name = string_bytes name; entry = entry } }
     {
         Declared { name, entry }
     }
 
+    /// The name, in small letters where it is an identifier.
     pub fn name(&self) -> &str
         ensures { result.now ≡ self.now.name }
     {
         self.name.as_str()
     }
 
+    /// What the name denotes.
     pub fn entry(&self) -> Entry
         ensures { result ≡ self.now.entry }
     {

@@ -20,7 +20,7 @@ break_if broken names place rule = if broken && is_known names then at place rul
 
 -- ---- what a place asks of the expression there
 
--- that exactly one of the types that it can have is this one
+-- that this type is among those that it can have, and so the one of them that fits
 unfoldable pub asks : BaseType → Told → List Fault
 asks t told = break_if (not (fits_alone t told.types)) told.names told.place rule.Type
 

@@ -38,7 +38,7 @@ unfoldable pub literal_type : Entry → Option BaseType
 literal_type (entry.Literal t position) = Some t
 literal_type _ = None
 
--- the types of overloaded literals, each once as no two entries are literals of one type
+-- the types of overloaded literals; a region keeps a literal of a type once, at its first position
 unfoldable pub literal_types : List Entry → List BaseType
 literal_types entries = filter_map literal_type entries
 

@@ -96,7 +96,7 @@ pub struct Told {
     pub names: Items<Fault>,
     /// The breaks in it of the rules of types, aggregates and numbers.
     pub typing: Items<Fault>,
-    /// The types that it can have, each once.
+    /// The types that it can have.
     pub types: Items<BaseType>,
     /// Whether it is globally static (9.4.3).
     pub is_static: bool,

@@ -61,11 +61,12 @@ pub struct Reference {
     pub base: BaseType,
 }
 
-/// What follows the name of an object.
+/// What follows the name of an object. Each part says of its own expressions alone whether they are globally static
+/// (9.4.3); a name is so far known before the run as all its parts are, from the left.
 #[cycle(value)]
 #[derive(Drop)]
 pub enum PartValue {
-    /// An index, and whether it is globally static.
+    /// An index, and whether its expression is globally static.
     Index(Value, bool),
     /// The bounds of a slice, and whether both are globally static.
     Slice(Value, Direction, Value, bool),

@@ -43,14 +43,14 @@ def assigned(count, undeclared=-1):
     return each(count, line)
 
 
-def chain(operand, operator, front, back):
-    room = SIZE - 200 - len(front) - len(back)
+def chain(operand, operator, front, back, taken=0):
+    room = SIZE - 200 - taken - len(front) - len(back)
     piece = operator + operand
     return front + operand + piece * (room // len(piece)) + back
 
 
 MANY = 20000
-OVERLOADED = 4000
+OVERLOADED = each(MANY, lambda n: f"type t{n} is (x);")
 
 TEXTS = {
     "signals, each used twice": design(signals(MANY), assigned(MANY)),
@@ -68,9 +68,13 @@ TEXTS = {
     "relations": design("signal b:boolean;\n", chain("1=1", " or ", "b<=", ";\n")),
     "an aggregate": design("signal v:bit_vector(0 to 1);\n", chain("'0'", ",", "v<=(", ");\n")),
     "literals of one type": design("type t is (x0" + each(100000, lambda n: f",x{n + 1}") + ");\n", ""),
-    "a literal of many types": design(
-        each(OVERLOADED, lambda n: f"type t{n} is (x,y{n});") + each(OVERLOADED, lambda n: f"signal s{n}:t{n};"),
-        each(OVERLOADED, lambda n: f"s{n}<=x;"),
+    "a literal of many types": design(OVERLOADED + "signal s:t7;\n", each(90000, lambda n: "s<=x;")),
+    "one expression of such literals": design(
+        OVERLOADED + "signal s:t7;\nsignal b:boolean;\n", chain("s=x", " or ", "b<=", ";\n", len(OVERLOADED))
+    ),
+    "ranges of such literals": design(
+        OVERLOADED + "type t is (x,y);\n",
+        process("", each(MANY // 2, lambda n: "for i in x to y loop null; end loop;")),
     ),
     "choices": design(
         "",

@@ -9,8 +9,12 @@ mod grammar;
 #[cfg(test)]
 mod lexis;
 #[cfg(test)]
+mod lists;
+#[cfg(test)]
 mod names;
 #[cfg(test)]
 mod operators;
+#[cfg(test)]
+mod overloads;
 #[cfg(test)]
 mod regions;

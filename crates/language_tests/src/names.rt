@@ -1,9 +1,11 @@
 //! Names of each kind with what follows them, and what they tell as expressions, worked out by hand from the
 //! rules of the language.
 
+use crate::lists::{listed, meanings};
 use sqlite_items::Items;
 use std::alloc::{AllocError, Global};
 use std::test::Fail;
+use vhdl_overloads::Types;
 use vhdl_tokens::{Kind, Token};
 use vhdl_types::{BaseType, Class, Entry, Fault, Function, Mark, Object, TimeUnit};
 use vhdl_typing::{Form, NameTold, PartTold, Told, begun, extended, finished, value_of};
@@ -57,7 +59,7 @@ pub(crate) fn shown(alloc: Global, told: &Told) -> Result<String, AllocError> {
     let mut text = String::new(alloc);
     push_faults(alloc, &mut text, told.names.as_slice())?;
     push_faults(alloc, &mut text, told.typing.as_slice())?;
-    for base in told.types.as_slice() {
+    for base in &listed(alloc, &told.types)? {
         let part = format!(in alloc; "{base:?} ")?;
         text.push_str(part.as_str())?;
     }
@@ -76,7 +78,7 @@ fn integer(alloc: Global, place: u32) -> Result<Told, AllocError> {
         place,
         names: Items::new(alloc),
         typing: Items::new(alloc),
-        types: Items::from_slice(alloc, &[BaseType::Integer])?,
+        types: Types::one(alloc, BaseType::Integer)?,
         is_static: true,
         reads: false,
         form: Form::Value,
@@ -90,19 +92,19 @@ fn ends(alloc: Global, name: NameTold) -> Result<String, AllocError> {
 
 // The name `x`.
 fn alone(alloc: Global, entries: &[Entry]) -> Result<String, AllocError> {
-    ends(alloc, begun(alloc, 0, entries)?)
+    ends(alloc, begun(alloc, 0, meanings(alloc, entries)?)?)
 }
 
 // The name `x(7)`.
 fn with_index(alloc: Global, entry: Entry) -> Result<String, AllocError> {
-    let name = begun(alloc, 0, &[entry])?;
+    let name = begun(alloc, 0, meanings(alloc, &[entry])?)?;
     let part = PartTold::Index(integer(alloc, 2)?);
     ends(alloc, extended(alloc, b"x(7)", name, part)?)
 }
 
 // The name `x(7 to 9)`.
 fn with_slice(alloc: Global, entry: Entry) -> Result<String, AllocError> {
-    let name = begun(alloc, 0, &[entry])?;
+    let name = begun(alloc, 0, meanings(alloc, &[entry])?)?;
     let part = PartTold::Slice(integer(alloc, 2)?, integer(alloc, 7)?);
     ends(alloc, extended(alloc, b"x(7 to 9)", name, part)?)
 }
@@ -115,7 +117,7 @@ fn with_attribute(alloc: Global, entry: Entry, text: &str) -> Result<String, All
         end: 14,
         line: 1,
     };
-    let name = begun(alloc, 0, &[entry])?;
+    let name = begun(alloc, 0, meanings(alloc, &[entry])?)?;
     let part = PartTold::Attribute(word);
     ends(alloc, extended(alloc, text.as_bytes(), name, part)?)
 }

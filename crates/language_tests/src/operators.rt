@@ -1,5 +1,6 @@
 // Rows from the operators of package STANDARD and of IEEE.STD_LOGIC_1164, as the standard declares them.
 
+use crate::lists::{listed, types};
 use std::test::Fail;
 use vhdl_operators::{
     all_arrays, can_be, can_be_from, common_discrete, compares, fits_alone, has, narrow, of_bits,
@@ -17,16 +18,16 @@ use vhdl_types::BaseType::{
     Time,
 };
 
-type Types = &'static [BaseType];
+type Listed = &'static [BaseType];
 
 const TEXT: BaseType = BaseType::String;
 
 // What the literal '1' can be, and what "01" can.
-const ONE: Types = &[Bit, Character, StdUlogic];
+const ONE: Listed = &[Bit, Character, StdUlogic];
 
-const ZERO_ONE: Types = &[BitVector, StdUlogicVector, TEXT];
+const ZERO_ONE: Listed = &[BitVector, StdUlogicVector, TEXT];
 
-const OPERATORS: [(Operator, Types, Types, Types); 44] = [
+const OPERATORS: [(Operator, Listed, Listed, Listed); 44] = [
     (And, &[Boolean], &[Boolean], &[Boolean]),
     (Or, &[Bit], ONE, &[Bit]),
     (Xor, ONE, ONE, &[Bit, StdUlogic]),
@@ -80,19 +81,21 @@ const OPERATORS: [(Operator, Types, Types, Types); 44] = [
 
 #[test]
 fn operators_give_what_is_declared(rt: HostRuntime) -> Result<(), Fail> {
-    for (operator, left, right, want) in OPERATORS.iter() {
-        let found = results(rt.alloc(), *operator, *left, *right)?;
+    for (place, (operator, left, right, want)) in OPERATORS.iter().enumerate() {
+        let (left, right) = (types(rt.alloc(), *left)?, types(rt.alloc(), *right)?);
+        let found = results(rt.alloc(), *operator, &left, &right)?;
         assert_eq!(rt;
-            found.as_slice(),
+            listed(rt.alloc(), &found)?.as_slice(),
             *want,
-            "{operator:?} of {left:?} and {right:?}"
+            "{operator:?}, row {place}"
         );
     }
-    assert!(rt; can_be(Multiply, &[Time], &[Integer], Time));
+    let (time, integer) = (types(rt.alloc(), &[Time])?, types(rt.alloc(), &[Integer])?);
+    assert!(rt; can_be(Multiply, &time, &integer, Time));
     Ok(())
 }
 
-const UNARY: [(Unary, Types, Types); 9] = [
+const UNARY: [(Unary, Listed, Listed); 9] = [
     (Plus, &[Time], &[Time]),
     (Minus, &[Integer], &[Integer]),
     (Minus, &[Bit], &[]),
@@ -106,15 +109,16 @@ const UNARY: [(Unary, Types, Types); 9] = [
 
 #[test]
 fn unary_operators_give_what_is_declared(rt: HostRuntime) -> Result<(), Fail> {
-    for (operator, types, want) in UNARY.iter() {
-        let found = results_from(rt.alloc(), *operator, *types)?;
-        assert_eq!(rt; found.as_slice(), *want, "{operator:?} of {types:?}");
+    for (operator, operand, want) in UNARY.iter() {
+        let found = results_from(rt.alloc(), *operator, &types(rt.alloc(), *operand)?)?;
+        let found = listed(rt.alloc(), &found)?;
+        assert_eq!(rt; found.as_slice(), *want, "{operator:?} of {operand:?}");
     }
-    assert!(rt; !can_be_from(Abs, &[Time], Time));
+    assert!(rt; !can_be_from(Abs, &types(rt.alloc(), &[Time])?, Time));
     Ok(())
 }
 
-const RELATIONS: [(Operator, Types, Types, bool); 12] = [
+const RELATIONS: [(Operator, Listed, Listed, bool); 12] = [
     (Equal, &[StdUlogic], ONE, true),
     (Equal, ONE, &[StdUlogic], true),
     (Equal, ONE, ONE, false),
@@ -130,15 +134,17 @@ const RELATIONS: [(Operator, Types, Types, bool); 12] = [
 ];
 
 #[test]
-fn operands_of_relations(rt: HostRuntime) {
-    for (operator, left, right, want) in RELATIONS.iter() {
-        let related = relates(*operator, *left, *right);
-        assert_eq!(rt; related, *want, "{operator:?} of {left:?} and {right:?}");
+fn operands_of_relations(rt: HostRuntime) -> Result<(), Fail> {
+    for (place, (operator, left, right, want)) in RELATIONS.iter().enumerate() {
+        let (left, right) = (types(rt.alloc(), *left)?, types(rt.alloc(), *right)?);
+        let related = relates(*operator, &left, &right);
+        assert_eq!(rt; related, *want, "{operator:?}, row {place}");
     }
     assert!(rt; !compares(Less, TEXT));
+    Ok(())
 }
 
-const STRINGS: [(&[u8], Types); 5] = [
+const STRINGS: [(&[u8], Listed); 5] = [
     (b"", ZERO_ONE),
     (b"0110", ZERO_ONE),
     (b"UX01ZWLH-", &[StdUlogicVector, TEXT]),
@@ -149,30 +155,51 @@ const STRINGS: [(&[u8], Types); 5] = [
 #[test]
 fn literals_and_aggregates(rt: HostRuntime) -> Result<(), Fail> {
     for (text, want) in STRINGS.iter() {
-        let found = of_string(rt.alloc(), *text)?;
+        let found = listed(rt.alloc(), &of_string(rt.alloc(), *text)?)?;
         assert_eq!(rt; found.as_slice(), *want, "{text:?}");
     }
-    let bits = of_bits(rt.alloc())?;
+    let bits = listed(rt.alloc(), &of_bits(rt.alloc())?)?;
     assert_eq!(rt; bits.as_slice(), [BitVector, StdUlogicVector].as_slice());
     let any = all_arrays(rt.alloc())?;
-    let ones = narrow(rt.alloc(), any.as_slice(), ONE)?;
+    let ones = narrow(rt.alloc(), any.as_slice(), &types(rt.alloc(), ONE)?)?;
     assert_eq!(rt; ones.as_slice(), ZERO_ONE);
-    let letters = narrow(rt.alloc(), ones.as_slice(), &[Character])?;
+    let character = types(rt.alloc(), &[Character])?;
+    let letters = narrow(rt.alloc(), ones.as_slice(), &character)?;
     assert_eq!(rt; letters.as_slice(), [TEXT].as_slice());
     Ok(())
 }
 
 #[test]
 fn places(rt: HostRuntime) -> Result<(), Fail> {
-    assert!(rt; has(ONE, Character));
-    assert!(rt; fits_alone(StdUlogic, ONE) && !fits_alone(Own(1), &[Own(0)]));
-    assert!(rt; only(&[Time]) == Some(Time) && only(ONE) == None && only(&[]) == None);
-    let wide = [Own(1), Own(9), Character, Own(4)];
-    let shared = common_discrete(rt.alloc(), &wide, &[Own(9), Own(2), Time])?;
-    assert!(rt; shared == Some(Own(9)));
-    let twice = common_discrete(rt.alloc(), &wide, &[Own(9), Character])?;
-    assert!(rt; twice == None);
-    let never = common_discrete(rt.alloc(), &[Time, Own(3)], &[Time, Own(30)])?;
-    assert!(rt; never == None);
+    let one = types(rt.alloc(), ONE)?;
+    let (none, time) = (types(rt.alloc(), &[])?, types(rt.alloc(), &[Time])?);
+    assert!(rt; has(&one, Character) && fits_alone(StdUlogic, &one) && !fits_alone(Own(1), &one));
+    assert!(rt; only(&time) == Some(Time) && only(&one) == None && only(&none) == None);
+    Ok(())
+}
+
+const BOUNDS: [(Listed, Listed, Option<BaseType>); 6] = [
+    (
+        &[Own(1), Own(9), Character, Own(4)],
+        &[Own(9), Own(2), Time],
+        Some(Own(9)),
+    ),
+    (
+        &[Own(1), Own(9), Character, Own(4)],
+        &[Own(9), Character],
+        None,
+    ),
+    (&[Own(9)], &[Own(1), Own(9), Own(4)], Some(Own(9))),
+    (&[Own(4), Integer], &[Time, Integer], Some(Integer)),
+    (&[Time, Own(3)], &[Time, Own(30)], None),
+    (&[], &[Integer], None),
+];
+
+#[test]
+fn bounds_have_one_type(rt: HostRuntime) -> Result<(), Fail> {
+    for (place, (left, right, want)) in BOUNDS.iter().enumerate() {
+        let (left, right) = (types(rt.alloc(), *left)?, types(rt.alloc(), *right)?);
+        assert!(rt; common_discrete(&left, &right) == *want, "row {place}");
+    }
     Ok(())
 }

@@ -1,5 +1,6 @@
 //! Names in nested regions, with what they denote by hiding and overloading, worked out by hand.
 
+use crate::lists::denoted;
 use std::alloc::Global;
 use std::test::Fail;
 use vhdl_scope::{Region, Regions, STANDARD_MARKS, overloading, standard, standard_numbers, word};
@@ -111,7 +112,7 @@ const STEPS: [Step; 53] = [
 ];
 
 fn denotes(regions: &Regions, alloc: Global, name: &str, want: &[Entry]) -> Result<bool, Fail> {
-    let found = regions.meanings(alloc, name)?;
+    let found = denoted(alloc, &regions.meanings(alloc, name)?)?;
     Ok(found.as_slice() == want)
 }
 

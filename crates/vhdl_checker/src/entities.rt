@@ -28,7 +28,7 @@ fn unit_number(entries: &[Entry]) -> Option<usize>
 pub fn entity_number(name: &str, around: &Surroundings) -> Option<usize>
     ensures { result ≡ after.entity_number name.now around.now }
 {
-    unit_number(around.library().find(name))
+    unit_number(around.library().find(name).entries())
 }
 
 /// Whether a region declares a name.

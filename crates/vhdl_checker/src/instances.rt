@@ -64,7 +64,7 @@ fn formal_here(
         None => Ok(FormalTold::Positional),
         Some(token) => {
             let name = word(alloc, text, token)?;
-            let object = formal_in(of_generics, formals.find(name.as_str()));
+            let object = formal_in(of_generics, formals.find(name.as_str()).entries());
             Ok(FormalTold::Named(token.start, object))
         }
     }

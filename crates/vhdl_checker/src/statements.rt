@@ -40,7 +40,7 @@ fn begin_for(
     ensures faults { IfOk result (λ faults. faults ≡ spec.loop_faults text.now around.old (scheme_of.For token.now bounds.now)) }
 {
     let told = bounds_here(alloc, text, around, bounds)?;
-    let entry = parameter(around.next_number(), loop_type(alloc, &told)?);
+    let entry = parameter(around.next_number(), loop_type(&told));
     let faults = loop_range(alloc, told)?;
     let name = word(alloc, text, token)?;
     around.add_parameter(name, entry)?;

@@ -9,6 +9,7 @@ ghost use Rattle.vhdl_checker.specs.Telling as spec;
 use crate::surroundings::Surroundings;
 use sqlite_items::Items;
 use std::alloc::{AllocError, Global};
+use vhdl_overloads::Meanings;
 use vhdl_rules::{
     ElementTold, ObjectsTold, SubtypeTold, WaitTold, indexed, mark_in, mark_names, ranged,
     unconstrained,
@@ -17,7 +18,7 @@ use vhdl_tokens::Token;
 use vhdl_tree::{
     Alternative, Bounds, Choice, Constraint, Delay, Element, Expr, Name, Subtype, Wait,
 };
-use vhdl_types::{Entry, Fault, Mark};
+use vhdl_types::{Fault, Mark};
 use vhdl_typing::{
     BoundsTold, ChoiceTold, NameTold, Told, look, tell, tell_bounds, tell_choice, tell_name,
 };
@@ -29,8 +30,8 @@ fn seen_here(
     text: &[u8],
     around: &Surroundings,
     token: &Token,
-) -> Result<Vec<Entry>, AllocError>
-    ensures { IfOk result (λ entries. entries.items ≡ spec.seen_here text.now around.now token.now) }
+) -> Result<Meanings, AllocError>
+    ensures { IfOk result (λ entries. entries ≡ spec.seen_here text.now around.now token.now) }
 {
     look(alloc, text, around.regions(), token)
 }
@@ -167,7 +168,7 @@ fn subtype_with(
     text: &[u8],
     around: &Surroundings,
     place: u32,
-    entries: &[Entry],
+    entries: &Meanings,
     constraint: &Option<Constraint>,
 ) -> Result<SubtypeTold, AllocError>
     ensures { IfOk result (λ told. told ≡ spec.subtype_with text.now around.now place entries.now constraint.now) }
@@ -200,7 +201,7 @@ pub fn subtype_here(
         text,
         around,
         subtype.mark.start,
-        entries.as_slice(),
+        &entries,
         &subtype.constraint,
     )
 }

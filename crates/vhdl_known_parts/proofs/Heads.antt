@@ -19,8 +19,9 @@ use Rattle.vhdl_meaning.specs.declared.candidates.Candidate.{Candidate, out-Cand
 use Rattle.vhdl_meaning.specs.declared.candidates.ChoiceCandidate.{ChoiceCandidate}
 use Rattle.vhdl_meaning.specs.declared.candidates.Denoted.{Denoted}
 use Rattle.vhdl_meaning.specs.declared.candidates.RangeCandidate.{RangeCandidate}
-use Rattle.vhdl_operators.specs.Places.{common_discrete, is_common_discrete, only}
+use Rattle.vhdl_operators.specs.Places.{common_discrete, is_common_discrete, only, sole}
 use Rattle.vhdl_operators.proofs.Members.{has_filter, same_self}
+use Rattle.vhdl_operators.proofs.Sole.{sole_has}
 use Rattle.vhdl_operators.specs.Sets.{has}
 use Rattle.vhdl_resolving.specs.Statements.{choices_resolved, for_resolved, loop_over, scheme_resolved, subject_resolved, type_or_integer}
 use Rattle.vhdl_resolving.specs.Values.{choice_here, range_here, value_at}
@@ -65,13 +66,16 @@ subject_has : (told : Told) (t : BaseType) → subject_type told ≡ Some t → 
 unfolding subject_type
 subject_has told t h = and_left (has told.types t) (is_choosable t) (only_kept is_choosable told.types t h)
 
+sole_kept : (p : BaseType → Bool) (types : List BaseType) (t : BaseType) → sole (filter p types) ≡ Some t → (has types t && p t) ≡ true
+sole_kept p types t h = sym (has_filter p types t) ∙ sole_has (filter p types) t h
+
 common_left : (ls rs : List BaseType) (t : BaseType) → common_discrete ls rs ≡ Some t → has ls t ≡ true
 unfolding common_discrete
-common_left ls rs t h = and_left (has ls t) (is_common_discrete rs t) (only_kept (is_common_discrete rs) ls t h)
+common_left ls rs t h = and_left (has ls t) (is_common_discrete rs t) (sole_kept (is_common_discrete rs) ls t h)
 
 common_right : (ls rs : List BaseType) (t : BaseType) → common_discrete ls rs ≡ Some t → has rs t ≡ true
 unfolding common_discrete is_common_discrete
-common_right ls rs t h = and_right (is_discrete t) (has rs t) (and_right (has ls t) (is_common_discrete rs t) (only_kept (is_common_discrete rs) ls t h))
+common_right ls rs t h = and_right (is_discrete t) (has rs t) (and_right (has ls t) (is_common_discrete rs t) (sole_kept (is_common_discrete rs) ls t h))
 
 -- ---- choices
 

@@ -23,7 +23,7 @@ use Rattle.vhdl_types.specs.Types.{same}
 use Rattle.vhdl_types.specs.declared.base_type.BaseType.{BaseType}
 use Rattle.vhdl_types.specs.declared.entry.Entry.{Entry}
 use Rattle.vhdl_typing.specs.Literals.{integer_high, integer_told, literal_told, number_told, spelled_told, spelled_types, string_types, time_high, time_told, unit_in}
-use Rattle.vhdl_typing.specs.Names.{literal_type, literal_types}
+use Rattle.vhdl_overloads.specs.Literals.{literal_type, literal_types}
 use Rattle.vhdl_typing.specs.declared.told.Told.{Told}
 use Rattle.vhdl_units.specs.declared.values.Value.{Value}
 use Rattle.vhdl_types.specs.declared.base_type.BaseType.TheVariants as base

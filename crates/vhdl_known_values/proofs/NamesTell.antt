@@ -5,7 +5,7 @@ use Rattle.vhdl_meaning.specs.declared.candidates.PartCandidate.{PartCandidate}
 use Rattle.vhdl_types.specs.declared.base_type.BaseType.{BaseType}
 use Rattle.vhdl_types.specs.declared.entry.Entry.{Entry}
 use Rattle.vhdl_typing.specs.Attributes.{is_static_class}
-use Rattle.vhdl_typing.specs.Names.{literal_types}
+use Rattle.vhdl_overloads.specs.Literals.{literal_types}
 use Rattle.vhdl_typing.specs.declared.told.Denotes.{Denotes}
 use Rattle.vhdl_typing.specs.declared.told.NameTold.{NameTold}
 use Rattle.vhdl_typing.specs.declared.told.ObjectName.{ObjectName}

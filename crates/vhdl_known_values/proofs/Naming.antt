@@ -25,7 +25,8 @@ use Rattle.vhdl_types.specs.declared.entry.Object.{Object}
 use Rattle.vhdl_typing.specs.Attributes.{is_static_class}
 use Rattle.vhdl_typing.specs.Faults.{break_if}
 use Rattle.vhdl_typing.specs.Names as telling
-use Rattle.vhdl_typing.specs.Names.{finished, literal_types, name_told, value_of}
+use Rattle.vhdl_overloads.specs.Literals.{literal_types}
+use Rattle.vhdl_typing.specs.Names.{finished, name_told, value_of}
 use Rattle.vhdl_typing.specs.Ranges.{range_as, range_name}
 use Rattle.vhdl_typing.specs.declared.told.Denotes.{Denotes}
 use Rattle.vhdl_typing.specs.declared.told.NameTold.{NameTold}

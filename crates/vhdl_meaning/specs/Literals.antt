@@ -10,7 +10,7 @@ use Rattle.vhdl_tokens.specs.declared.token.Token.{Token}
 use Rattle.vhdl_types.specs.declared.entry.Entry.{Entry}
 use Rattle.vhdl_types.specs.declared.entry.TimeUnit.{TimeUnit}
 use Rattle.vhdl_typing.specs.Literals.{femtoseconds_in, integer_high, time_high, unit_in}
-use Rattle.vhdl_typing.specs.Names.{literal_types}
+use Rattle.vhdl_overloads.specs.Literals.{literal_types}
 use Rattle.vhdl_types.specs.declared.base_type.BaseType.TheVariants as base
 use Rattle.vhdl_meaning.specs.declared.candidates.Open.TheVariants as pending
 use Rattle.vhdl_tokens.specs.declared.token.Kind.TheVariants as kind

@@ -13,7 +13,7 @@ use Rattle.vhdl_types.specs.declared.entry.Entry.{Entry}
 use Rattle.vhdl_types.specs.declared.entry.Function.{Function}
 use Rattle.vhdl_types.specs.declared.entry.Object.{Object}
 use Rattle.vhdl_typing.specs.Attributes.{attribute_of, is_static_class}
-use Rattle.vhdl_typing.specs.Names.{literal_types}
+use Rattle.vhdl_overloads.specs.Literals.{literal_types}
 use Rattle.vhdl_typing.specs.declared.told.Attribute.{Attribute}
 use Rattle.vhdl_typing.specs.declared.told.TypeAttribute.{TypeAttribute}
 use Rattle.vhdl_units.specs.declared.values.PartValue.{PartValue}

@@ -1,9 +1,10 @@
 //! What an expression can mean before its place says which type is asked.
 
 use sqlite_items::{Boxed, Items};
+use vhdl_overloads::{Meanings, Types};
 use vhdl_tokens::Token;
 use vhdl_tree::{Direction, Operator, Unary};
-use vhdl_types::{BaseType, Entry, Function, Object};
+use vhdl_types::{BaseType, Function, Object};
 use vhdl_typing::TypeAttribute;
 use vhdl_units::{ChoiceValue, PartValue, Reference, Value};
 
@@ -12,7 +13,7 @@ use vhdl_units::{ChoiceValue, PartValue, Reference, Value};
 #[derive(Drop)]
 pub struct Candidate {
     /// The types that it can have.
-    pub types: Items<BaseType>,
+    pub types: Types,
     /// Whether it is globally static (9.4.3).
     pub is_static: bool,
     pub form: Open,
@@ -25,7 +26,7 @@ pub enum Open {
     /// It has no more than one type, and this is what it means then.
     Value(Value),
     /// Overloaded enumeration literals (9.3.2, 12.5).
-    Literals(Items<Entry>),
+    Literals(Meanings),
     /// The characters of a string or bit string literal.
     Text(Items<u8>),
     Unary(Unary, Boxed<Candidate>),
@@ -76,7 +77,7 @@ pub enum Denoted {
     /// Nothing that it could mean in an expression.
     Unknown,
     /// Enumeration literals, overloaded where there are several.
-    Literals(Items<Entry>),
+    Literals(Meanings),
     /// An object, an element of it or a slice: the object, what follows its name, the type of what is named, and
     /// whether all that follows is globally static.
     Object(Object, Items<PartValue>, BaseType, bool),

@@ -13,10 +13,11 @@ use crate::names::{candidate_with, only_value};
 use sqlite_items::Items;
 use std::alloc::{AllocError, Global};
 use vhdl_operators::{of_bits, of_string};
+use vhdl_overloads::Types;
 use vhdl_scope::Regions;
 use vhdl_tokens::{Kind, Token, bits, integer, string};
-use vhdl_types::{BaseType, Entry, TimeUnit};
-use vhdl_typing::{femtoseconds_in, literal_types, look};
+use vhdl_types::{BaseType, TimeUnit};
+use vhdl_typing::{femtoseconds_in, look, unit_in};
 use vhdl_units::Value;
 
 /// The largest value of INTEGER (5.2.3.2).
@@ -61,16 +62,6 @@ fn each_of(unit: Option<TimeUnit>) -> u128
     match unit {
         Some(unit) => femtoseconds_in(unit),
         None => 0,
-    }
-}
-
-#[tactic(auto, unfolding(vhdl_typing::specs::Literals::unit_in))]
-fn unit_in(entries: &[Entry]) -> Option<TimeUnit>
-    ensures { result ≡ typing.unit_in entries.now }
-{
-    match entries {
-        [Entry::Unit(unit), ..] => Some(*unit),
-        _ => None,
     }
 }
 
@@ -145,7 +136,7 @@ fn text_candidate(alloc: Global, value: Option<Vec<u8>>) -> Result<Candidate, Al
             let types = of_string(alloc, &bytes)?;
             Ok(candidate_with(types, true, Open::Text(Items::from_vec(bytes))))
         }
-        None => Ok(candidate_with(Items::new(alloc), true, Open::Text(Items::new(alloc)))),
+        None => Ok(candidate_with(Types::new(), true, Open::Text(Items::new(alloc)))),
     }
 }
 
@@ -187,8 +178,8 @@ fn character_literal(
     ensures { IfOk result (λ v. v ≡ spec.character_candidate (look text.now regions.now token.now)) }
 {
     let entries = look(alloc, text, regions, token)?;
-    let types = literal_types(alloc, &entries)?;
-    Ok(candidate_with(types, true, Open::Literals(Items::from_vec(entries))))
+    let types = Types::of_literals(entries.share(alloc)?);
+    Ok(candidate_with(types, true, Open::Literals(entries)))
 }
 
 /// A character, string or bit string literal (9.3.2).
@@ -205,6 +196,6 @@ pub(crate) fn spelled(
         Kind::Char => character_literal(alloc, text, regions, token),
         Kind::Text => text_literal(alloc, text, token),
         Kind::Bits => bits_literal(alloc, text, token),
-        _ => Ok(candidate_with(Items::new(alloc), false, Open::Value(Value::Unknown))),
+        _ => Ok(candidate_with(Types::new(), false, Open::Value(Value::Unknown))),
     }
 }

@@ -8,36 +8,37 @@ use crate::candidates::{Candidate, Denoted, Open, PartCandidate};
 use crate::settling::settle;
 use sqlite_items::{Boxed, Items};
 use std::alloc::{AllocError, Global};
+use vhdl_overloads::{Meanings, Types};
 use vhdl_tree::Direction;
 use vhdl_types::{BaseType, Entry, Function, Object};
-use vhdl_typing::{Attribute, TypeAttribute, attribute_of, is_static_class, literal_types};
+use vhdl_typing::{Attribute, TypeAttribute, attribute_of, is_static_class};
 use vhdl_units::{PartValue, Reference, Value};
 
 // ---- the identifier
 
 #[tactic(auto, unfolding(crate::specs::Names::denoted_by))]
-fn denoted_by(alloc: Global, entry: Entry, entries: &[Entry]) -> Result<Denoted, AllocError>
-    ensures { IfOk result (λ v. v ≡ spec.denoted_by entry entries.now) }
+fn denoted_by(alloc: Global, entry: Entry, entries: Meanings) -> Denoted
+    ensures { result ≡ spec.denoted_by entry entries }
 {
     match entry {
-        Entry::Subtype(mark) => Ok(Denoted::Subtype(mark.base)),
-        Entry::Object(object) => Ok(Denoted::Object(object, Items::new(alloc), object.base, true)),
-        Entry::Literal(_, _) => Ok(Denoted::Literals(Items::from_slice(alloc, entries)?)),
-        Entry::Function(Function::Now) => Ok(Denoted::Value(Value::Now, BaseType::Time, false)),
-        Entry::Function(function) => Ok(Denoted::Function(function)),
-        Entry::Unit(_) => Ok(Denoted::Unknown),
-        Entry::Label(_) => Ok(Denoted::Unknown),
+        Entry::Subtype(mark) => Denoted::Subtype(mark.base),
+        Entry::Object(object) => Denoted::Object(object, Items::new(alloc), object.base, true),
+        Entry::Literal(_, _) => Denoted::Literals(entries),
+        Entry::Function(Function::Now) => Denoted::Value(Value::Now, BaseType::Time, false),
+        Entry::Function(function) => Denoted::Function(function),
+        Entry::Unit(_) => Denoted::Unknown,
+        Entry::Label(_) => Denoted::Unknown,
     }
 }
 
 /// What an identifier denotes by its entries: one, or several literals.
 #[tactic(auto, unfolding(crate::specs::Names::begun))]
-pub(crate) fn begun(alloc: Global, entries: &[Entry]) -> Result<Denoted, AllocError>
-    ensures { IfOk result (λ v. v ≡ spec.begun entries.now) }
+pub(crate) fn begun(alloc: Global, entries: Meanings) -> Denoted
+    ensures { result ≡ spec.begun entries }
 {
-    match entries {
-        [] => Ok(Denoted::Unknown),
-        [entry, ..] => denoted_by(alloc, *entry, entries),
+    match entries.first() {
+        None => Denoted::Unknown,
+        Some(entry) => denoted_by(alloc, entry, entries),
     }
 }
 
@@ -283,7 +284,7 @@ pub(crate) fn extended(
 // ---- a name as an expression
 
 #[tactic(auto, unfolding(crate::specs::Names::candidate_with))]
-pub(crate) fn candidate_with(types: Items<BaseType>, is_static: bool, form: Open) -> Candidate
+pub(crate) fn candidate_with(types: Types, is_static: bool, form: Open) -> Candidate
     ensures { result ≡ spec.candidate_with types is_static form }
 {
     Candidate {
@@ -302,7 +303,7 @@ pub(crate) fn only_value(
 ) -> Result<Candidate, AllocError>
     ensures { IfOk result (λ v. v ≡ spec.only_value value base is_static) }
 {
-    let types = Items::from_slice(alloc, &[base])?;
+    let types = Types::one(alloc, base)?;
     Ok(candidate_with(types, is_static, Open::Value(value)))
 }
 
@@ -313,7 +314,7 @@ pub fn candidate_of(alloc: Global, denoted: Denoted) -> Result<Candidate, AllocE
 {
     match denoted {
         Denoted::Literals(entries) => {
-            let types = literal_types(alloc, entries.as_slice())?;
+            let types = Types::of_literals(entries.share(alloc)?);
             Ok(candidate_with(types, true, Open::Literals(entries)))
         }
         Denoted::Object(object, parts, base, are_static) => {
@@ -322,7 +323,7 @@ pub fn candidate_of(alloc: Global, denoted: Denoted) -> Result<Candidate, AllocE
             only_value(alloc, value, base, is_static)
         }
         Denoted::Value(value, base, is_static) => only_value(alloc, value, base, is_static),
-        _ => Ok(candidate_with(Items::new(alloc), false, Open::Value(Value::Unknown))),
+        _ => Ok(candidate_with(Types::new(), false, Open::Value(Value::Unknown))),
     }
 }
 

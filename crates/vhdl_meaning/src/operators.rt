@@ -13,6 +13,7 @@ use crate::ranges::{choice_at, choice_is_static};
 use sqlite_items::{Boxed, Items};
 use std::alloc::{AllocError, Global};
 use vhdl_operators::{all_arrays, has, narrow, only, results, results_from};
+use vhdl_overloads::Types;
 use vhdl_tree::{Operator, Unary};
 use vhdl_types::BaseType;
 use vhdl_typing::is_relation;
@@ -27,7 +28,7 @@ pub(crate) fn unary(
 ) -> Result<Candidate, AllocError>
     ensures { IfOk result (λ v. v ≡ spec.unary operator operand) }
 {
-    let types = results_from(alloc, operator, operand.types.as_slice())?;
+    let types = results_from(alloc, operator, &operand.types)?;
     let is_static = operand.is_static;
     let operand = Boxed::new(alloc, operand)?;
     Ok(candidate_with(types, is_static, Open::Unary(operator, operand)))
@@ -36,7 +37,7 @@ pub(crate) fn unary(
 // ---- operators of one precedence
 
 #[tactic(auto, unfolding(crate::specs::Operators::met))]
-fn met(base: Option<BaseType>, others: &[BaseType]) -> Option<BaseType>
+fn met(base: Option<BaseType>, others: &Types) -> Option<BaseType>
     ensures { result ≡ spec.met base others.now }
 {
     match base {
@@ -67,14 +68,14 @@ fn or_integer(base: Option<BaseType>) -> BaseType
 
 /// The type of both operands of a relation.
 #[tactic(auto, unfolding(crate::specs::Operators::related))]
-fn related(left: &[BaseType], right: &[BaseType]) -> BaseType
+fn related(left: &Types, right: &Types) -> BaseType
     ensures { result ≡ spec.related left.now right.now }
 {
     or_integer(first_of(met(only(left), right), met(only(right), left)))
 }
 
 #[tactic(auto, unfolding(crate::specs::Operators::relation_of))]
-fn relation_of(operator: Operator, left: &[BaseType], right: &[BaseType]) -> Option<BaseType>
+fn relation_of(operator: Operator, left: &Types, right: &Types) -> Option<BaseType>
     ensures { result ≡ spec.relation_of operator left.now right.now }
 {
     if is_relation(operator) {
@@ -85,21 +86,12 @@ fn relation_of(operator: Operator, left: &[BaseType], right: &[BaseType]) -> Opt
 }
 
 #[tactic(auto, unfolding(crate::specs::Operators::chain_types))]
-fn chain_types(
-    alloc: Global,
-    first: &[BaseType],
-    links: &[CandidateLink],
-) -> Result<Items<BaseType>, AllocError>
+fn chain_types(alloc: Global, first: &Types, links: &[CandidateLink]) -> Result<Types, AllocError>
     ensures { IfOk result (λ v. v ≡ spec.chain_types first.now links.now) }
 {
-    let mut types = Items::from_slice(alloc, first)?;
+    let mut types = first.share(alloc)?;
     for link in links {
-        types = results(
-            alloc,
-            link.operator,
-            types.as_slice(),
-            link.right.types.as_slice(),
-        )?;
+        types = results(alloc, link.operator, &types, &link.right.types)?;
     }
     Ok(types)
 }
@@ -129,12 +121,8 @@ pub(crate) fn chain(
     match links.as_slice() {
         [] => Ok(first),
         [link, ..] => {
-            let relation = relation_of(
-                link.operator,
-                first.types.as_slice(),
-                link.right.types.as_slice(),
-            );
-            let types = chain_types(alloc, first.types.as_slice(), links.as_slice())?;
+            let relation = relation_of(link.operator, &first.types, &link.right.types);
+            let types = chain_types(alloc, &first.types, links.as_slice())?;
             let is_static = first.is_static && links_are_static(links.as_slice());
             let first = Boxed::new(alloc, first)?;
             Ok(candidate_with(types, is_static, Open::Chain(relation, first, links)))
@@ -186,14 +174,14 @@ pub(crate) fn item(
 }
 
 #[tactic(auto, unfolding(crate::specs::Operators::item_types, vhdl_operators::specs::Literals::aggregates))]
-fn aggregate_types(alloc: Global, items: &[CandidateItem]) -> Result<Items<BaseType>, AllocError>
+fn aggregate_types(alloc: Global, items: &[CandidateItem]) -> Result<Types, AllocError>
     ensures { IfOk result (λ v. v ≡ aggregates (map spec.item_types items.now)) }
 {
     let mut types = all_arrays(alloc)?;
     for item in items {
-        types = narrow(alloc, types.as_slice(), item.value.types.as_slice())?;
+        types = narrow(alloc, types.as_slice(), &item.value.types)?;
     }
-    Ok(types)
+    Ok(Types::from_items(types))
 }
 
 #[tactic(auto, unfolding(crate::specs::Operators::item_is_static))]

@@ -72,13 +72,11 @@ pub fn range_at(
 
 /// The one discrete type that the bounds of a range have in common.
 #[tactic(auto, unfolding(crate::specs::Ranges::common_type))]
-pub fn common_type(alloc: Global, range: &RangeCandidate) -> Result<Option<BaseType>, AllocError>
-    ensures { IfOk result (λ v. v ≡ spec.common_type range.now) }
+pub fn common_type(range: &RangeCandidate) -> Option<BaseType>
+    ensures { result ≡ spec.common_type range.now }
 {
     match range {
-        RangeCandidate::Bounds(left, _, right) => {
-            common_discrete(alloc, left.types.as_slice(), right.types.as_slice())
-        }
-        RangeCandidate::Name(_) => Ok(Some(BaseType::Integer)),
+        RangeCandidate::Bounds(left, _, right) => common_discrete(&left.types, &right.types),
+        RangeCandidate::Name(_) => Some(BaseType::Integer),
     }
 }

@@ -7,21 +7,18 @@ use crate::candidates::{Candidate, CandidateItem, CandidateLink, Open};
 use sqlite_items::{Boxed, Items};
 use std::alloc::{AllocError, Global};
 use vhdl_operators::has;
-use vhdl_types::{BaseType, Entry};
+use vhdl_overloads::{Meanings, Types};
+use vhdl_types::BaseType;
 use vhdl_units::{ItemValue, LinkValue, Value};
 
 #[tactic(auto, unfolding(crate::specs::Settling::literal_at))]
-fn literal_at(base: BaseType, entries: &[Entry]) -> Value
+fn literal_at(base: BaseType, entries: &Meanings) -> Value
     ensures { result ≡ spec.literal_at base entries.now }
 {
-    for entry in entries {
-        if let Entry::Literal(other, position) = entry {
-            if base.is(*other) {
-                return Value::Literal(*other, *position);
-            }
-        }
+    match entries.position(base) {
+        Some(position) => Value::Literal(base, position),
+        None => Value::Unknown,
     }
-    Value::Unknown
 }
 
 #[tactic(auto, unfolding(crate::specs::Settling::element_or))]
@@ -35,17 +32,17 @@ fn element_or(base: Option<BaseType>) -> BaseType
 }
 
 #[tactic(auto, unfolding(crate::specs::Settling::first_or))]
-fn first_or(base: BaseType, types: &[BaseType]) -> BaseType
+fn first_or(base: BaseType, types: &Types) -> BaseType
     ensures { result ≡ spec.first_or base types.now }
 {
-    match types {
-        [] => base,
-        [first, ..] => *first,
+    match types.first() {
+        Some(first) => first,
+        None => base,
     }
 }
 
 #[tactic(auto, unfolding(crate::specs::Settling::other_type))]
-fn other_type(base: BaseType, types: &[BaseType]) -> BaseType
+fn other_type(base: BaseType, types: &Types) -> BaseType
     ensures { result ≡ spec.other_type base types.now }
 {
     if has(types, base) {
@@ -56,7 +53,7 @@ fn other_type(base: BaseType, types: &[BaseType]) -> BaseType
 }
 
 #[tactic(auto, unfolding(crate::specs::Settling::operand_type))]
-fn operand_type(base: BaseType, types: &[BaseType]) -> BaseType
+fn operand_type(base: BaseType, types: &Types) -> BaseType
     ensures { result ≡ spec.operand_type base types.now }
 {
     if has(types, base) {
@@ -83,7 +80,7 @@ pub fn settle(alloc: Global, candidate: Candidate, base: BaseType) -> Result<Val
     ensures { IfOk result (λ v. v ≡ spec.settled candidate base) }
 {
     let Candidate { types, form, .. } = candidate;
-    if has(types.as_slice(), base) {
+    if has(&types, base) {
         settle_open(alloc, form, base)
     } else {
         Ok(Value::Unknown)
@@ -97,7 +94,7 @@ fn settle_open(alloc: Global, form: Open, base: BaseType) -> Result<Value, Alloc
 {
     match form {
         Open::Value(value) => Ok(value),
-        Open::Literals(entries) => Ok(literal_at(base, entries.as_slice())),
+        Open::Literals(entries) => Ok(literal_at(base, &entries)),
         Open::Text(bytes) => Ok(Value::Text(base, bytes)),
         Open::Unary(operator, inner) => {
             let inner = settle(alloc, inner.into_inner(), base)?;
@@ -121,7 +118,7 @@ fn settle_open(alloc: Global, form: Open, base: BaseType) -> Result<Value, Alloc
 fn settle_operand(alloc: Global, base: BaseType, operand: Candidate) -> Result<Value, AllocError>
     ensures { IfOk result (λ v. v ≡ spec.operand_at base (spec.settled_candidate operand)) }
 {
-    let asked = operand_type(base, operand.types.as_slice());
+    let asked = operand_type(base, &operand.types);
     settle(alloc, operand, asked)
 }
 

@@ -163,7 +163,7 @@ pub fn denote(
     ensures { IfOk result (λ v. v ≡ spec.denoted text.now (look text.now regions.now) name.now) }
 {
     let entries = look(alloc, text, regions, &name.identifier)?;
-    let first = begun(alloc, &entries)?;
+    let first = begun(alloc, entries);
     denote_parts(alloc, text, regions, first, name.parts.as_slice())
 }
 

@@ -1,4 +1,5 @@
-pub mod Numbers
 pub mod Members
 pub mod Given
 pub mod Sharing
+pub mod Shared
+pub mod Sole

@@ -1,12 +1,10 @@
 -- What a place asks of the types that an expression there can have (IEEE Std 1076-2008, clause 12.5): that exactly
 -- one of them fits.
-use Rattle.std.specs.Prelude.{ℕ, Bool, ◌&&◌, Option, Some, None, List, [], ◌∷◌, filter}
-use Rattle.std.specs.Ordering.{nat_cmp}
-use Rattle.std.specs.List.{filter_map}
-use Rattle.std.specs.BTreeSet.{BTreeSet, IsFromIterResult}
+use Rattle.std.specs.List.{list_all}
+use Rattle.std.specs.Prelude.{ℕ, Bool, false, not, ◌&&◌, Option, Some, None, List, [], ◌∷◌, filter, slice_get, if◌then◌else◌}
 use Rattle.vhdl_types.specs.declared.base_type.BaseType.{BaseType}
 use Rattle.vhdl_types.specs.declared.base_type.BaseType.TheVariants as base
-use Rattle.vhdl_types.specs.Types.{is_discrete}
+use Rattle.vhdl_types.specs.Types.{is_discrete, same}
 use Rattle.vhdl_operators.specs.Sets.{has}
 
 -- a place of the type asked: as no type stands twice, exactly one fits where this is one of them
@@ -21,15 +19,33 @@ only _ = None
 unfoldable pub is_common_discrete : List BaseType → BaseType → Bool
 is_common_discrete types t = is_discrete t && has types t
 
+-- the type in a list that has no other
+unfoldable pub sole : List BaseType → Option BaseType
+sole [] = None
+sole (t ∷ types) = if list_all (same t) types then Some t else None
+
 unfoldable pub common_discrete : List BaseType → List BaseType → Option BaseType
-common_discrete ls rs = only (filter (is_common_discrete rs) ls)
+common_discrete ls rs = sole (filter (is_common_discrete rs) ls)
 
--- ---- how the types of the design are looked up
+-- ---- how it is found
 
-unfoldable pub own_number : BaseType → Option ℕ
-own_number (base.Own number) = Some number
-own_number _ = None
+-- the type in a list that has no other, where `found` was found before
+unfoldable pub sole_with : Option BaseType → List BaseType → Option BaseType
+sole_with None types = sole types
+sole_with (Some t) types = if list_all (same t) types then Some t else None
 
--- the set has the numbers of the types of the design that stand in the list
-abbrev pub HasOwnNumbers : BTreeSet ℕ → List BaseType → Type 0
-HasOwnNumbers own types = IsFromIterResult nat_cmp (filter_map own_number types) own
+unfoldable pub differ : Option BaseType → Option BaseType → Bool
+differ (Some t) (Some u) = not (same t u)
+differ _ _ = false
+
+unfoldable pub first_of : Option BaseType → Option BaseType → Option BaseType
+first_of (Some t) other = Some t
+first_of None other = other
+
+-- the type at a place, where it passes a test
+unfoldable pub if_passes : (BaseType → Bool) → Option BaseType → Option BaseType
+if_passes p (Some t) = if p t then Some t else None
+if_passes p None = None
+
+unfoldable pub passing_at : (BaseType → Bool) → List BaseType → ℕ → Option BaseType
+passing_at p types place = if_passes p (slice_get types place)

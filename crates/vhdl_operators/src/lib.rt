@@ -1,8 +1,9 @@
 //! The types that operators, literals and aggregates can have, over sets of the types that their operands can
 //! have, and what a place asks of such a set (IEEE Std 1076-2008, clauses 9.2, 9.3 and 12.5).
 //!
-//! A set of types is a slice without repeats. It may be long, since a literal can stand in each enumeration
-//! type of a design: every call looks at each of its members a bounded number of times, or looks it up.
+//! A set of types is a list without repeats. It may be long, since a literal can stand in each enumeration
+//! type of a design: every call looks a few types up in it. `common_discrete` looks each type of the smaller
+//! of two sets up in the other.
 #![tactic(auto)]
 
 pub mod laws;

@@ -8,23 +8,20 @@ ghost use Rattle.vhdl_operators.specs.Literals as spec;
 use crate::sets::{ARRAYS, PREDEFINED, has};
 use sqlite_items::Items;
 use std::alloc::{AllocError, Global};
+use vhdl_overloads::Types;
 use vhdl_types::BaseType;
 
 /// The types that a string literal can have (9.3.2), by the bytes of its value: STRING, and the arrays of bits
 /// each of whose literals it spells.
 #[tactic(auto, unfolding(crate::specs::Literals::of_string))]
-pub fn of_string(alloc: Global, text: &[u8]) -> Result<Items<BaseType>, AllocError>
+pub fn of_string(alloc: Global, text: &[u8]) -> Result<Types, AllocError>
     ensures { IfOk result (λ types. types ≡ spec.of_string text.now) }
 {
     spelt_among(alloc, &PREDEFINED, text)
 }
 
 /// The types of `candidates` that a string literal can have.
-fn spelt_among(
-    alloc: Global,
-    candidates: &[BaseType],
-    text: &[u8],
-) -> Result<Items<BaseType>, AllocError>
+fn spelt_among(alloc: Global, candidates: &[BaseType], text: &[u8]) -> Result<Types, AllocError>
     ensures { IfOk result (λ types. types ≡ filter (spec.spells text.now) candidates.now) }
 {
     let types = candidates
@@ -32,15 +29,16 @@ fn spelt_among(
         .copied()
         .filter(|base| spells(text, *base))
         .collect(alloc)?;
-    Ok(Items::from_vec(types))
+    Ok(Types::from_items(Items::from_vec(types)))
 }
 
 /// The types that a bit string literal can have (9.3.2).
 #[tactic(auto, unfolding(crate::specs::Literals::of_bits))]
-pub fn of_bits(alloc: Global) -> Result<Items<BaseType>, AllocError>
+pub fn of_bits(alloc: Global) -> Result<Types, AllocError>
     ensures { IfOk result (λ types. types ≡ spec.of_bits) }
 {
-    Items::from_slice(alloc, &[BaseType::BitVector, BaseType::StdUlogicVector])
+    let types = Items::from_slice(alloc, &[BaseType::BitVector, BaseType::StdUlogicVector])?;
+    Ok(Types::from_items(types))
 }
 
 /// The types that an aggregate can have of which no item is known (9.3.3): the array types.
@@ -56,7 +54,7 @@ pub fn all_arrays(alloc: Global) -> Result<Items<BaseType>, AllocError>
 pub fn narrow(
     alloc: Global,
     so_far: &[BaseType],
-    item: &[BaseType],
+    item: &Types,
 ) -> Result<Items<BaseType>, AllocError>
     ensures { IfOk result (λ types. types ≡ spec.narrowed so_far.now item.now) }
 {
@@ -70,7 +68,7 @@ pub fn narrow(
 
 /// Whether an item of an aggregate of the type `base` can have the element type.
 #[tactic(auto, unfolding(crate::specs::Literals::holds, crate::specs::Literals::elements_can_be))]
-fn holds(item: &[BaseType], base: BaseType) -> bool
+fn holds(item: &Types, base: BaseType) -> bool
     ensures { result ≡ spec.holds item.now base }
 {
     match base.element() {

@@ -6,6 +6,7 @@ ghost use Rattle.vhdl_operators.specs.Operators as spec;
 use crate::sets::{PREDEFINED, has};
 use sqlite_items::Items;
 use std::alloc::{AllocError, Global};
+use vhdl_overloads::Types;
 use vhdl_tree::{Operator, Unary};
 use vhdl_types::BaseType;
 
@@ -15,9 +16,9 @@ use vhdl_types::BaseType;
 pub fn results(
     alloc: Global,
     operator: Operator,
-    left: &[BaseType],
-    right: &[BaseType],
-) -> Result<Items<BaseType>, AllocError>
+    left: &Types,
+    right: &Types,
+) -> Result<Types, AllocError>
     ensures { IfOk result (λ types. types ≡ spec.results operator left.now right.now) }
 {
     results_among(alloc, &PREDEFINED, operator, left, right)
@@ -28,9 +29,9 @@ fn results_among(
     alloc: Global,
     candidates: &[BaseType],
     operator: Operator,
-    left: &[BaseType],
-    right: &[BaseType],
-) -> Result<Items<BaseType>, AllocError>
+    left: &Types,
+    right: &Types,
+) -> Result<Types, AllocError>
     ensures { IfOk result (λ types. types ≡ filter (spec.can_be operator left.now right.now) candidates.now) }
 {
     let types = candidates
@@ -38,16 +39,12 @@ fn results_among(
         .copied()
         .filter(|base| can_be(operator, left, right, *base))
         .collect(alloc)?;
-    Ok(Items::from_vec(types))
+    Ok(Types::from_items(Items::from_vec(types)))
 }
 
 /// The types that an operator before one operand can give (9.2), in the order of their enumeration.
 #[tactic(auto, unfolding(crate::specs::Operators::results_from))]
-pub fn results_from(
-    alloc: Global,
-    operator: Unary,
-    types: &[BaseType],
-) -> Result<Items<BaseType>, AllocError>
+pub fn results_from(alloc: Global, operator: Unary, types: &Types) -> Result<Types, AllocError>
     ensures { IfOk result (λ given. given ≡ spec.results_from operator types.now) }
 {
     results_from_among(alloc, &PREDEFINED, operator, types)
@@ -58,8 +55,8 @@ fn results_from_among(
     alloc: Global,
     candidates: &[BaseType],
     operator: Unary,
-    types: &[BaseType],
-) -> Result<Items<BaseType>, AllocError>
+    types: &Types,
+) -> Result<Types, AllocError>
     ensures { IfOk result (λ given. given ≡ filter (spec.can_be_from operator types.now) candidates.now) }
 {
     let given = candidates
@@ -67,13 +64,13 @@ fn results_from_among(
         .copied()
         .filter(|base| can_be_from(operator, types, *base))
         .collect(alloc)?;
-    Ok(Items::from_vec(given))
+    Ok(Types::from_items(Items::from_vec(given)))
 }
 
 /// Whether an operator can give the type `base` where its operands can have the types `left` and `right` (9.2).
 /// A relation gives BOOLEAN whatever its operands are.
 #[tactic(auto, unfolding(crate::specs::Operators::can_be))]
-pub fn can_be(operator: Operator, left: &[BaseType], right: &[BaseType], base: BaseType) -> bool
+pub fn can_be(operator: Operator, left: &Types, right: &Types, base: BaseType) -> bool
     ensures { result ≡ spec.can_be operator left.now right.now base }
 {
     match operator {
@@ -99,7 +96,7 @@ pub fn can_be(operator: Operator, left: &[BaseType], right: &[BaseType], base: B
 
 /// Whether an operator before one operand can give the type `base`, which is its operand's (9.2).
 #[tactic(auto, unfolding(crate::specs::Operators::can_be_from))]
-pub fn can_be_from(operator: Unary, types: &[BaseType], base: BaseType) -> bool
+pub fn can_be_from(operator: Unary, types: &Types, base: BaseType) -> bool
     ensures { result ≡ spec.can_be_from operator types.now base }
 {
     is_defined_on(operator, base) && has(types, base)
@@ -152,14 +149,14 @@ fn is_logical(base: BaseType) -> bool
 
 /// Whether both operands can have the type `base`.
 #[tactic(auto, unfolding(crate::specs::Operators::both))]
-fn both(left: &[BaseType], right: &[BaseType], base: BaseType) -> bool
+fn both(left: &Types, right: &Types, base: BaseType) -> bool
     ensures { result ≡ spec.both left.now right.now base }
 {
     has(left, base) && has(right, base)
 }
 
 #[tactic(auto, unfolding(crate::specs::Operators::logical))]
-fn logical(left: &[BaseType], right: &[BaseType], base: BaseType) -> bool
+fn logical(left: &Types, right: &Types, base: BaseType) -> bool
     ensures { result ≡ spec.logical left.now right.now base }
 {
     is_logical(base) && both(left, right, base)
@@ -176,14 +173,14 @@ fn relation(base: BaseType) -> bool
 }
 
 #[tactic(auto, unfolding(crate::specs::Operators::sum))]
-fn sum(left: &[BaseType], right: &[BaseType], base: BaseType) -> bool
+fn sum(left: &Types, right: &Types, base: BaseType) -> bool
     ensures { result ≡ spec.sum left.now right.now base }
 {
     is_numeric(base) && both(left, right, base)
 }
 
 #[tactic(auto, unfolding(crate::specs::Operators::product))]
-fn product(left: &[BaseType], right: &[BaseType], base: BaseType) -> bool
+fn product(left: &Types, right: &Types, base: BaseType) -> bool
     ensures { result ≡ spec.product left.now right.now base }
 {
     match base {
@@ -197,7 +194,7 @@ fn product(left: &[BaseType], right: &[BaseType], base: BaseType) -> bool
 }
 
 #[tactic(auto, unfolding(crate::specs::Operators::quotient))]
-fn quotient(left: &[BaseType], right: &[BaseType], base: BaseType) -> bool
+fn quotient(left: &Types, right: &Types, base: BaseType) -> bool
     ensures { result ≡ spec.quotient left.now right.now base }
 {
     match base {
@@ -210,7 +207,7 @@ fn quotient(left: &[BaseType], right: &[BaseType], base: BaseType) -> bool
 }
 
 #[tactic(auto, unfolding(crate::specs::Operators::integers))]
-fn integers(left: &[BaseType], right: &[BaseType], base: BaseType) -> bool
+fn integers(left: &Types, right: &Types, base: BaseType) -> bool
     ensures { result ≡ spec.integers left.now right.now base }
 {
     match base {
@@ -220,7 +217,7 @@ fn integers(left: &[BaseType], right: &[BaseType], base: BaseType) -> bool
 }
 
 #[tactic(auto, unfolding(crate::specs::Operators::concatenation, crate::specs::Operators::joined))]
-fn concatenation(left: &[BaseType], right: &[BaseType], base: BaseType) -> bool
+fn concatenation(left: &Types, right: &Types, base: BaseType) -> bool
     ensures { result ≡ spec.concatenation left.now right.now base }
 {
     match base.element() {
@@ -231,7 +228,7 @@ fn concatenation(left: &[BaseType], right: &[BaseType], base: BaseType) -> bool
 
 /// Whether an operand of `&` can be an array of the type `base` or an element of one.
 #[tactic(auto, unfolding(crate::specs::Operators::joins))]
-fn joins(types: &[BaseType], base: BaseType, element: BaseType) -> bool
+fn joins(types: &Types, base: BaseType, element: BaseType) -> bool
     ensures { result ≡ spec.joins types.now base element }
 {
     has(types, base) || has(types, element)

@@ -5,13 +5,14 @@ ghost use Rattle.vhdl_operators.specs.Relations as spec;
 
 use crate::places::only;
 use crate::sets::has;
+use vhdl_overloads::Types;
 use vhdl_tree::Operator;
 use vhdl_types::BaseType;
 
 /// Whether the operands of a relation, which can have the types `left` and `right`, have one type on which it is
 /// defined and which one of them can have alone (9.2.3). An operator that is no relation relates nothing.
 #[tactic(auto, unfolding(crate::specs::Relations::relates))]
-pub fn relates(operator: Operator, left: &[BaseType], right: &[BaseType]) -> bool
+pub fn relates(operator: Operator, left: &Types, right: &Types) -> bool
     ensures { result ≡ spec.relates operator left.now right.now }
 {
     is_met(operator, only(left), right) || is_met(operator, only(right), left)
@@ -34,7 +35,7 @@ pub fn compares(operator: Operator, base: BaseType) -> bool
 
 /// Whether the other operand can have the only type of one.
 #[tactic(auto, unfolding(crate::specs::Relations::is_met))]
-fn is_met(operator: Operator, only: Option<BaseType>, others: &[BaseType]) -> bool
+fn is_met(operator: Operator, only: Option<BaseType>, others: &Types) -> bool
     ensures { result ≡ spec.is_met operator only others.now }
 {
     match only {

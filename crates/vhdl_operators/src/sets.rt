@@ -3,6 +3,7 @@
 ghost use Rattle.std.specs.Prelude.{◌≡◌};
 ghost use Rattle.vhdl_operators.specs.Sets as spec;
 
+use vhdl_overloads::Types;
 use vhdl_types::BaseType;
 
 /// The types that are always visible, in the order of their enumeration.
@@ -29,8 +30,8 @@ pub(crate) const ARRAYS: [BaseType; 4] = [
 
 /// Whether `base` is one of the types.
 #[tactic(auto, unfolding(crate::specs::Sets::has))]
-pub fn has(types: &[BaseType], base: BaseType) -> bool
+pub fn has(types: &Types, base: BaseType) -> bool
     ensures { result ≡ spec.has types.now base }
 {
-    types.iter().any(|member| base.is(*member))
+    types.has(base)
 }

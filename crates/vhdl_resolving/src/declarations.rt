@@ -177,7 +177,7 @@ fn mark_here(
     ensures { IfOk result (λ v. v ≡ subtypes.mark_in (seen_here text.now around.now token.now)) }
 {
     let entries = look(alloc, text, around.regions(), token)?;
-    Ok(mark_in(entries.as_slice()))
+    Ok(mark_in(&entries))
 }
 
 #[tactic(auto, unfolding(crate::specs::Declarations::subtype_resolved))]

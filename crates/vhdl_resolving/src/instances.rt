@@ -39,7 +39,7 @@ fn formal_of(
         None => Ok(object_at(objects, position)),
         Some(token) => {
             let name = word(alloc, text, token)?;
-            Ok(formal_in(of_generics, formals.find(name.as_str())))
+            Ok(formal_in(of_generics, formals.find(name.as_str()).entries()))
         }
     }
 }

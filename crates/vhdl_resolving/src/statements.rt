@@ -471,7 +471,7 @@ fn for_resolved(
 ) -> Result<ResolvedScheme, AllocError>
     ensures { IfOk result (λ v. v ≡ spec.for_resolved text.now around.now token.now range) }
 {
-    let base = type_or_integer(common_type(alloc, &range)?);
+    let base = type_or_integer(common_type(&range));
     loop_over(alloc, text, around, token, base, range)
 }
 

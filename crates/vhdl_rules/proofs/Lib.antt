@@ -2,4 +2,3 @@ mod Known
 mod Turns
 mod KnownParts
 mod Taking
-mod Counts

@@ -1,7 +1,8 @@
 //! Case statements (10.9).
 
-ghost use Rattle.std.specs.Prelude.{◌≡◌, IfOk, [], if◌then◌else◌, count_by};
-ghost use Rattle.std.specs.List.{find, flat_map};
+ghost use Rattle.std.specs.Prelude.{◌≡◌, IfOk, [], if◌then◌else◌, filter};
+ghost use Rattle.std.specs.List.{flat_map};
+ghost use Rattle.vhdl_operators.specs.Places.{only, passing_at};
 ghost use Rattle.vhdl_types.specs.Faults as faults_spec;
 ghost use Rattle.vhdl_types.specs.declared.fault.Rule.TheVariants as rule;
 ghost use Rattle.vhdl_rules.specs.Cases as spec;
@@ -10,6 +11,7 @@ use crate::order::reversed;
 use crate::values::{asked, told_and};
 use sqlite_items::Items;
 use std::alloc::{AllocError, Global};
+use vhdl_overloads::Types;
 use vhdl_types::{BaseType, Fault, Rule};
 use vhdl_typing::{ChoiceTold, Told, append, at, break_if};
 
@@ -25,29 +27,40 @@ fn is_choosable(base: BaseType) -> bool
     }
 }
 
-fn choosable_count(types: &[BaseType]) -> usize
-    ensures { result ≡ count_by spec.is_choosable types.now }
+/// The type at a place, where a case statement can choose by its values.
+#[tactic(auto, unfolding(vhdl_operators::specs::Places::passing_at, vhdl_operators::specs::Places::if_passes))]
+fn choosable_at(types: &Types, place: usize) -> Option<BaseType>
+    ensures { result ≡ passing_at spec.is_choosable types.now place }
 {
-    types.iter().filter(|base| is_choosable(**base)).count()
+    match types.get(place) {
+        Some(base) => if is_choosable(base) { Some(base) } else { None },
+        None => None,
+    }
 }
 
-fn first_choosable(types: &[BaseType]) -> Option<BaseType>
-    ensures { result ≡ find spec.is_choosable types.now }
+/// The type by whose values a case statement can choose, where exactly one of the types is such.
+fn only_choosable(types: &Types) -> Option<BaseType>
+    ensures { result ≡ only (filter spec.is_choosable types.now) }
 {
-    types.iter().copied().find(|base| is_choosable(*base))
+    let mut chosen = None;
+    for place in 0..types.len() {
+        let next = choosable_at(types, place);
+        if next.is_some() {
+            if chosen.is_some() {
+                return None;
+            }
+            chosen = next;
+        }
+    }
+    chosen
 }
 
 /// The type by whose values a case statement chooses, where its expression can have exactly one such.
-#[tactic(auto, unfolding(crate::specs::Cases::subject_type), using(crate::proofs::Counts::only_counted, crate::proofs::Counts::not_counted))]
+#[tactic(auto, unfolding(crate::specs::Cases::subject_type))]
 pub fn subject_type(subject: &Told) -> Option<BaseType>
     ensures { result ≡ spec.subject_type subject.now }
 {
-    let types = subject.types.as_slice();
-    if choosable_count(types) == 1 {
-        first_choosable(types)
-    } else {
-        None
-    }
+    only_choosable(&subject.types)
 }
 
 /// The faults of the expression of a case statement.

@@ -11,17 +11,18 @@ use crate::values::{Breaks, asks_if_known, breaks_of};
 use sqlite_items::Items;
 use std::alloc::{AllocError, Global};
 use vhdl_operators::common_discrete;
+use vhdl_overloads::Meanings;
 use vhdl_types::{BaseType, Entry, Fault, Mark, Rule};
 use vhdl_typing::{BoundsTold, NameTold, Told, append, at, break_if};
 
 /// The subtype that a type's name denotes, by the entries of that name. There is none where it is of another
 /// kind.
 #[tactic(auto, unfolding(crate::specs::Subtypes::mark_in))]
-pub fn mark_in(entries: &[Entry]) -> Option<Mark>
+pub fn mark_in(entries: &Meanings) -> Option<Mark>
     ensures { result ≡ spec.mark_in entries.now }
 {
-    match entries {
-        [Entry::Subtype(mark), ..] => Some(*mark),
+    match entries.first() {
+        Some(Entry::Subtype(mark)) => Some(mark),
         _ => None,
     }
 }
@@ -29,13 +30,13 @@ pub fn mark_in(entries: &[Entry]) -> Option<Mark>
 /// The faults of a type's name at `place`, in bytes from 0, by the entries of that name: it isn't declared, or
 /// is of another kind (12.3).
 #[tactic(auto, unfolding(crate::specs::Subtypes::mark_names))]
-pub fn mark_names(alloc: Global, place: u32, entries: &[Entry]) -> Result<Items<Fault>, AllocError>
+pub fn mark_names(alloc: Global, place: u32, entries: &Meanings) -> Result<Items<Fault>, AllocError>
     ensures { IfOk result (λ faults. faults ≡ spec.mark_names place entries.now) }
 {
-    match entries {
-        [] => at(alloc, place, Rule::Undeclared),
-        [Entry::Subtype(_), ..] => Ok(Items::new(alloc)),
-        _ => at(alloc, place, Rule::WrongKind),
+    match entries.first() {
+        None => at(alloc, place, Rule::Undeclared),
+        Some(Entry::Subtype(_)) => Ok(Items::new(alloc)),
+        Some(_) => at(alloc, place, Rule::WrongKind),
     }
 }
 
@@ -312,25 +313,22 @@ pub fn indexed(
 }
 
 /// The type of the parameter of a `for` loop over a range: the one discrete type that its bounds have in common
-/// (5.3.2.1, 10.10). It takes memory, as the enumeration types of the design are looked up in a set.
+/// (5.3.2.1, 10.10).
 #[tactic(auto, unfolding(crate::specs::Subtypes::loop_type))]
-pub fn loop_type(alloc: Global, bounds: &BoundsTold) -> Result<Option<BaseType>, AllocError>
-    ensures { IfOk result (λ base. base ≡ spec.loop_type bounds.now) }
+pub fn loop_type(bounds: &BoundsTold) -> Option<BaseType>
+    ensures { result ≡ spec.loop_type bounds.now }
 {
     match bounds {
-        BoundsTold::Range(left, right) => {
-            common_discrete(alloc, left.types.as_slice(), right.types.as_slice())
-        }
-        BoundsTold::Name(_) => Ok(Some(BaseType::Integer)),
+        BoundsTold::Range(left, right) => common_discrete(&left.types, &right.types),
+        BoundsTold::Name(_) => Some(BaseType::Integer),
     }
 }
 
 /// Whether the bounds of a loop's range have no discrete type in common, or several.
-fn is_uncommon(alloc: Global, left: &Told, right: &Told) -> Result<bool, AllocError>
-    ensures { IfOk result (λ is. is ≡ not (is_some (common_discrete left.now.types right.now.types))) }
+fn is_uncommon(left: &Told, right: &Told) -> bool
+    ensures { result ≡ not (is_some (common_discrete left.now.types right.now.types)) }
 {
-    let common = common_discrete(alloc, left.types.as_slice(), right.types.as_slice())?;
-    Ok(common.is_none())
+    common_discrete(&left.types, &right.types).is_none()
 }
 
 /// The faults of the two bounds of a loop's range.
@@ -339,7 +337,7 @@ fn loop_bounds(alloc: Global, left: Told, right: Told) -> Result<Items<Fault>, A
     ensures { IfOk result (λ faults. faults ≡ (left.names ++ right.names) ++
         ((faults_spec.typing_of left ++ faults_spec.typing_of right) ++ spec.uncommon left right)) }
 {
-    let (broken, place) = (is_uncommon(alloc, &left, &right)?, left.place);
+    let (broken, place) = (is_uncommon(&left, &right), left.place);
     let left = breaks_of(alloc, left)?;
     let Breaks { names, typing } = both(left, breaks_of(alloc, right)?)?;
     let uncommon = break_if(alloc, broken, names.as_slice(), place, Rule::Type)?;

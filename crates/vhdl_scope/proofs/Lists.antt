@@ -4,67 +4,21 @@ use Rattle.std.specs.Prelude.{Some, None, is_none, option_to_list, slice_get}
 use Rattle.std.specs.List.{list_all, last_or}
 use Rattle.vhdl_types.specs.declared.entry.Entry.{Entry}
 use Rattle.vhdl_types.specs.Entries.{is_literal}
-use Rattle.vhdl_scope.specs.Declarations.{Named, own, is_other}
-use Rattle.vhdl_scope.specs.Hiding.{met, first_other, overloaded, seen}
+use Rattle.vhdl_overloads.specs.Literals.{first_other}
+use Rattle.vhdl_overloads.specs.Hiding.{met, overloaded}
+use Rattle.vhdl_overloads.proofs.Lists.{met_other, met_literals, all_literals, filter_both, filter_twice, filter_all, all_both, all_filter}
+use Rattle.vhdl_scope.specs.Declarations.{Named, own}
+use Rattle.vhdl_scope.specs.Hiding.{seen}
 
 -- what two regions in one say of a name
 pub own_append : (name : List ℕ) (xs ys : List Named) → own name (xs ++ ys) ≡ own name xs ++ own name ys
 own_append name [] ys = refl
 own_append name (x ∷ xs) ys = grind (arith, own_append name xs ys)
 
-pub find_append : {X : Type 0} (p : X → Bool) (xs ys : List X) → find p xs ≡ None → find p (xs ++ ys) ≡ find p ys
-find_append p [] ys h = refl
-find_append p (x ∷ xs) ys h = grind (arith, find_append p xs ys)
-
-pub find_front : {X : Type 0} (p : X → Bool) (xs ys : List X) (x : X) → find p xs ≡ Some x → find p (xs ++ ys) ≡ Some x
-find_front p [] ys z h = grind arith
-find_front p (x ∷ xs) ys z h = grind (arith, find_front p xs ys z)
-
-take_first : {X : Type 0} (p : X → Bool) (xs : List X) → take 1 (filter p xs) ≡ option_to_list (find p xs)
-take_first p [] = refl
-take_first p (x ∷ xs) = grind (arith, take_first p xs)
-
-all_but : {X : Type 0} (p : X → Bool) (xs : List X) → list_all p xs ≡ is_none (find (λ x. not (p x)) xs)
-all_but p [] = refl
-all_but p (x ∷ xs) = grind (arith, all_but p xs)
-
--- a declaration that is no literal
-pub met_other : (entries found : List Entry) (e : Entry) → first_other entries ≡ Some e → met entries found ≡ e ∷ []
-met_other [] found e h = grind arith
-met_other (x ∷ xs) found e h = grind (arith, take_first is_other (x ∷ xs), all_but is_literal (x ∷ xs))
-
--- literals alone
-pub met_literals : (entries found : List Entry) → first_other entries ≡ None → met entries found ≡ overloaded entries found
-met_literals [] found h = refl
-met_literals (x ∷ xs) found h = grind (arith, all_but is_literal (x ∷ xs))
-
 -- regions behind regions
 pub seen_append : (name : List ℕ) (xs ys : List (List Named)) (found : List Entry) → seen name (xs ++ ys) found ≡ seen name xs (seen name ys found)
 seen_append name [] ys found = refl
 seen_append name (x ∷ xs) ys found = ap (met (own name x)) (seen_append name xs ys found)
-
-filter_both : {X : Type 0} (p : X → Bool) (xs ys : List X) → filter p (xs ++ ys) ≡ filter p xs ++ filter p ys
-filter_both p [] ys = refl
-filter_both p (x ∷ xs) ys = grind (arith, filter_both p xs ys)
-
-filter_twice : {X : Type 0} (p : X → Bool) (xs : List X) → filter p (filter p xs) ≡ filter p xs
-filter_twice p [] = refl
-filter_twice p (x ∷ xs) = grind (arith, filter_twice p xs)
-
-filter_all : {X : Type 0} (p : X → Bool) (xs : List X) → list_all p xs ≡ true → filter p xs ≡ xs
-filter_all p [] h = refl
-filter_all p (x ∷ xs) h = grind (arith, filter_all p xs)
-
-all_both : {X : Type 0} (p : X → Bool) (xs ys : List X) → list_all p xs ≡ true → list_all p ys ≡ true → list_all p (xs ++ ys) ≡ true
-all_both p [] ys h k = k
-all_both p (x ∷ xs) ys h k = grind (arith, all_both p xs ys)
-
-all_filter : {X : Type 0} (p : X → Bool) (xs : List X) → list_all p (filter p xs) ≡ true
-all_filter p [] = refl
-all_filter p (x ∷ xs) = grind (arith, all_filter p xs)
-
-all_literals : (entries : List Entry) → first_other entries ≡ None → list_all is_literal entries ≡ true
-all_literals entries h = grind (arith, all_but is_literal entries)
 
 -- one entry, or literals alone
 abbrev pub Alone : List Entry → Type 0

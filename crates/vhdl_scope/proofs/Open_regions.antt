@@ -6,7 +6,8 @@ use Rattle.std.proofs.lemmas.List.{reverse-append, take_all}
 use Rattle.std.proofs.lemmas.Grind.{take_at_read}
 use Rattle.vhdl_types.specs.declared.entry.Entry.{Entry}
 use Rattle.vhdl_scope.specs.Declarations.{Named, own}
-use Rattle.vhdl_scope.specs.Hiding.{met, seen}
+use Rattle.vhdl_overloads.specs.Hiding.{met}
+use Rattle.vhdl_scope.specs.Hiding.{seen}
 use Rattle.vhdl_scope.specs.Nesting.{OpenRegion, single, regions_in}
 use Rattle.vhdl_scope.proofs.Lists.{seen_append}
 

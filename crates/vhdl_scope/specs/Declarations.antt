@@ -1,8 +1,7 @@
 -- The declarations of a region (IEEE Std 1076-2008, 12.1).
-use Rattle.std.specs.Prelude.{ℕ, Bool, not, List, map, filter}
+use Rattle.std.specs.Prelude.{ℕ, List, map, filter}
 use Rattle.std.specs.Str.{bytes_eq}
 use Rattle.vhdl_types.specs.declared.entry.Entry.{Entry}
-use Rattle.vhdl_types.specs.Entries.{is_literal}
 
 -- a declaration: a name, and what it denotes
 pub record Named : Type 0 where
@@ -12,7 +11,3 @@ pub record Named : Type 0 where
 -- what the declarations of a region say of a name, in their order
 abbrev pub own : List ℕ → List Named → List Entry
 own name region = map (λ d. d.entry) (filter (λ d. bytes_eq name d.name) region)
-
--- whether an entry is no enumeration literal
-abbrev pub is_other : Entry → Bool
-is_other entry = not (is_literal entry)

@@ -1,26 +1,8 @@
 -- Hiding and overloading (IEEE Std 1076-2008, 12.3 and 12.5).
-use Rattle.std.specs.Prelude.{ℕ, Option, List, [], ◌∷◌, ◌++◌, ◌==◌, length, filter, find, take, if◌then◌else◌}
-use Rattle.std.specs.List.{list_all}
+use Rattle.std.specs.Prelude.{ℕ, List, [], ◌∷◌}
 use Rattle.vhdl_types.specs.declared.entry.Entry.{Entry}
-use Rattle.vhdl_types.specs.Entries.{is_literal}
-use Rattle.vhdl_scope.specs.Declarations.{Named, own, is_other}
-
--- What a name denotes in a region that has these entries of its own for it, where it denotes `found`
--- around the region. Without own entries nothing changes. Literals overload: they are seen together with
--- the literals that are seen from around. Any other declaration hides all else.
-abbrev pub met : List Entry → List Entry → List Entry
-met own found =
-    if length own == 0 then found
-    else (if list_all is_literal own then own ++ filter is_literal found
-    else take 1 (filter is_other own))
-
--- the second case on its own: entries of a region that are all literals
-abbrev pub overloaded : List Entry → List Entry → List Entry
-overloaded own found = if length own == 0 then found else own ++ filter is_literal found
-
--- the first of some entries that is no literal
-abbrev pub first_other : List Entry → Option Entry
-first_other entries = find is_other entries
+use Rattle.vhdl_overloads.specs.Hiding.{met}
+use Rattle.vhdl_scope.specs.Declarations.{Named, own}
 
 -- what a name denotes in the first of these regions, each of which lies in the next, where it denotes
 -- `found` around the last

@@ -3,7 +3,8 @@ use Rattle.std.specs.Prelude.{ℕ, Bool, List, [], ◌∷◌, ◌++◌, map, dro
 use Rattle.std.specs.List.{list_any, flat_map}
 use Rattle.vhdl_types.specs.declared.entry.Entry.{Entry}
 use Rattle.vhdl_scope.specs.declared.further.Further.{Further}
-use Rattle.vhdl_scope.specs.Declarations.{Named, own, is_other}
+use Rattle.vhdl_overloads.specs.Literals.{is_other}
+use Rattle.vhdl_scope.specs.Declarations.{Named, own}
 use Rattle.vhdl_scope.specs.Hiding.{seen}
 
 -- an entity and its architecture are one region

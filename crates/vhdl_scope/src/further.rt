@@ -2,20 +2,21 @@
 
 ghost use Rattle.std.specs.Prelude.{◌≡◌, ◌++◌, ◌∷◌, [], IfOk, OnOk, OnErr, string_bytes};
 ghost use Rattle.std.specs.List.{list_any, last_or};
-ghost use Rattle.vhdl_scope.specs.Declarations.{own, is_other};
-ghost use Rattle.vhdl_scope.specs.Hiding.{met};
+ghost use Rattle.vhdl_overloads.specs.Hiding.{met};
+ghost use Rattle.vhdl_overloads.specs.Literals.{is_other};
+ghost use Rattle.vhdl_scope.specs.Declarations.{own};
 ghost use Rattle.vhdl_scope.specs.Nesting.{whole};
 
-use crate::hiding::{has_other, met};
 use crate::region::Region;
 use std::alloc::{AllocError, Global};
+use vhdl_overloads::{Meanings, Overloads, met};
 use vhdl_types::Entry;
 
 // The last of some entries, or else what was the last before them.
-fn last_of(entries: &[Entry], before: Option<Entry>) -> Option<Entry>
-    ensures { result ≡ last_or before entries.now }
+fn last_of(overloads: &Overloads, before: Option<Entry>) -> Option<Entry>
+    ensures { result ≡ last_or before overloads.now }
 {
-    match entries.last() {
+    match overloads.entries().last() {
         Some(entry) => Some(*entry),
         None => before,
     }
@@ -54,7 +55,7 @@ impl Further {
     pub fn declares_other(&self, name: &str) -> bool
         ensures { result ≡ list_any is_other (own name.now (whole self.now)) }
     {
-        has_other(self.base.find(name)) || has_other(self.more.find(name))
+        self.base.find(name).has_other() || self.more.find(name).has_other()
     }
 
     /// What the region declared a name to be last, if it declares it.
@@ -66,13 +67,8 @@ impl Further {
     }
 
     /// What a name denotes in the region, where it denotes `found` around it.
-    pub fn seen(
-        &self,
-        alloc: Global,
-        name: &str,
-        found: Vec<Entry>,
-    ) -> Result<Vec<Entry>, AllocError>
-        ensures { IfOk result (λ seen. seen.items ≡ met (own name.now (whole self.now)) found.items) }
+    pub fn seen(&self, alloc: Global, name: &str, found: Meanings) -> Result<Meanings, AllocError>
+        ensures { IfOk result (λ seen. seen ≡ met (own name.now (whole self.now)) found) }
     {
         met(alloc, self.base.find(name), self.more.find(name), found)
     }

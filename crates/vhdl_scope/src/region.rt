@@ -1,14 +1,13 @@
 //! One declarative region.
 
-ghost use Rattle.std.specs.Prelude.{◌≡◌, ◌++◌, ◌∷◌, [], List, ℕ, String, string_bytes, length, IfOk, OnOk, OnErr};
-ghost use Rattle.std.specs.List.{list_any};
-ghost use Rattle.vhdl_types.specs.declared.entry.Entry.{Entry};
-ghost use Rattle.vhdl_scope.specs.Declarations.{own, is_other};
-ghost use Rattle.vhdl_scope.specs.Tables.{at, Adds, Keeps};
+ghost use Rattle.std.specs.Prelude.{◌≡◌, ◌++◌, ◌∷◌, [], string_bytes, OnOk, OnErr};
+ghost use Rattle.vhdl_scope.specs.Declarations.{own};
+ghost use Rattle.vhdl_scope.specs.Tables.{Adds, Keeps};
 
 use std::alloc::{AllocError, Global};
 use std::collections::BTreeMap;
 use std::marker::Model;
+use vhdl_overloads::Overloads;
 use vhdl_types::Entry;
 
 /// A declaration: a name, in lower case or a character literal as it is spelled, and what it denotes.
@@ -52,7 +51,7 @@ impl Declared {
 
 // Adds an entry to those of a name.
 fn note(
-    table: &mut BTreeMap<String, Vec<Entry>>,
+    table: &mut BTreeMap<String, Overloads>,
     name: String,
     entry: Entry,
 ) -> Result<(), AllocError>
@@ -61,7 +60,7 @@ fn note(
 {
     match table.entry(name)?.or_default().push(entry) {
         Ok(()) => Ok(()),
-        Err(full) => Err(AllocError::from(full)),
+        Err(error) => Err(error),
     }
 }
 
@@ -70,19 +69,21 @@ fn note(
 #[derive(Debug, Drop)]
 pub struct Region {
     all: Vec<Declared>,
-    table: BTreeMap<String, Vec<Entry>>,
+    table: BTreeMap<String, Overloads>,
+    // What is found of a name that isn't declared.
+    undeclared: Overloads,
 }
 
 impl Model for Region {
-    ghost use Rattle.std.specs.Prelude.{List, ℕ, ◌≡◌};
-    ghost use Rattle.vhdl_scope.specs.Declarations.{Named, own};
-    ghost use Rattle.vhdl_scope.specs.Tables.{at};
+    ghost use Rattle.std.specs.Prelude.{List};
+    ghost use Rattle.vhdl_scope.specs.Declarations.{Named};
+    ghost use Rattle.vhdl_scope.specs.Tables.{Finds};
 
     ghost Value = { List Named };
 
     ghost view = { λ r. r.all.items };
 
-    ghost invariant = { λ r. (name : List ℕ) → at r.table name ≡ own name r.all.items };
+    ghost invariant = { λ r. Finds r.table r.undeclared r.all.items };
 }
 
 impl Region {
@@ -93,6 +94,7 @@ impl Region {
         Region {
             all: Vec::new(alloc),
             table: BTreeMap::new(alloc),
+            undeclared: Overloads::new(alloc),
         }
     }
 
@@ -104,12 +106,12 @@ impl Region {
     }
 
     /// What the region declares a name to be, in the order of the declarations.
-    pub fn find(&self, name: &str) -> &[Entry]
+    pub fn find(&self, name: &str) -> &Overloads
         ensures { result.now ≡ own name.now self.now }
     {
         match self.table.get(name) {
-            Some(entries) => entries.as_slice(),
-            None => &[],
+            Some(entries) => entries,
+            None => &self.undeclared,
         }
     }
 

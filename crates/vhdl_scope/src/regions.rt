@@ -2,16 +2,18 @@
 
 ghost use Rattle.std.specs.Prelude.{◌≡◌, ◌++◌, ◌∷◌, [], IfOk, OnOk, OnErr, string_bytes};
 ghost use Rattle.std.specs.List.{list_any, last_or};
-ghost use Rattle.vhdl_scope.specs.Declarations.{own, is_other};
-ghost use Rattle.vhdl_scope.specs.Hiding.{met, seen};
+ghost use Rattle.vhdl_overloads.specs.Hiding.{met};
+ghost use Rattle.vhdl_overloads.specs.Literals.{is_other};
+ghost use Rattle.vhdl_scope.specs.Declarations.{own};
+ghost use Rattle.vhdl_scope.specs.Hiding.{seen};
 ghost use Rattle.vhdl_scope.specs.Nesting.{OpenRegion, Nested, beginning, outermost, opened, closed, declared_in, declared, loop_opened_in, loop_opened, loop_closed_in, loop_closed, regions_in, whole, meanings, declares_other};
 
 use crate::further::Further;
-use crate::hiding::met;
 use crate::region::{Declared, Region};
 use std::alloc::{AllocError, Global};
 use std::marker::Model;
 use std::mem;
+use vhdl_overloads::{Meanings, Overloads, met};
 use vhdl_types::Entry;
 
 // What a name denotes in a loop's region.
@@ -19,12 +21,14 @@ fn seen_in_loop(
     alloc: Global,
     parameter: &Declared,
     name: &str,
-    found: Vec<Entry>,
-) -> Result<Vec<Entry>, AllocError>
-    ensures { IfOk result (λ seen. seen.items ≡ met (own name.now (parameter.now ∷ [])) found.items) }
+    found: Meanings,
+) -> Result<Meanings, AllocError>
+    ensures { IfOk result (λ seen. seen ≡ met (own name.now (parameter.now ∷ [])) found) }
 {
     if name == parameter.name() {
-        met(alloc, &[parameter.entry()], &[], found)
+        let mut own = Overloads::new(alloc);
+        own.push(parameter.entry())?;
+        met(alloc, &own, &Overloads::new(alloc), found)
     } else {
         Ok(found)
     }
@@ -96,8 +100,8 @@ impl Open {
     }
 
     // What a name denotes in the region and its loops.
-    fn seen(&self, alloc: Global, name: &str, found: Vec<Entry>) -> Result<Vec<Entry>, AllocError>
-        ensures { IfOk result (λ all. all.items ≡ seen name.now (regions_in self.now) found.items) }
+    fn seen(&self, alloc: Global, name: &str, found: Meanings) -> Result<Meanings, AllocError>
+        ensures { IfOk result (λ all. all ≡ seen name.now (regions_in self.now) found) }
     {
         let mut all = self.region.seen(alloc, name, found)?;
         for parameter in &self.loops {
@@ -208,10 +212,10 @@ impl Regions {
 
     /// What a name denotes, by hiding and overloading (12.3 to 12.5): several entries only where all are
     /// enumeration literals, those of an inner region first; none where the name isn't declared.
-    pub fn meanings(&self, alloc: Global, name: &str) -> Result<Vec<Entry>, AllocError>
-        ensures { IfOk result (λ entries. entries.items ≡ meanings self.now name.now) }
+    pub fn meanings(&self, alloc: Global, name: &str) -> Result<Meanings, AllocError>
+        ensures { IfOk result (λ entries. entries ≡ meanings self.now name.now) }
     {
-        let mut found = Vec::new(alloc);
+        let mut found = Meanings::new(alloc);
         for region in &self.outer {
             found = region.seen(alloc, name, found)?;
         }

@@ -10,7 +10,7 @@ use Rattle.vhdl_types.specs.declared.base_type.BaseType.{BaseType}
 use Rattle.vhdl_types.specs.declared.entry.Entry.{Entry}
 use Rattle.vhdl_types.specs.declared.entry.TimeUnit.{TimeUnit}
 use Rattle.vhdl_types.specs.declared.fault.Fault.{Fault}
-use Rattle.vhdl_typing.specs.Names.{literal_types}
+use Rattle.vhdl_overloads.specs.Literals.{literal_types}
 use Rattle.vhdl_typing.specs.declared.told.Told.{Told}
 use Rattle.vhdl_types.specs.declared.base_type.BaseType.TheVariants as base
 use Rattle.vhdl_types.specs.declared.entry.Entry.TheVariants as entry

@@ -1,6 +1,6 @@
 -- What names denote (IEEE Std 1076-2008, clauses 8 and 12): an identifier, and part by part what follows it.
-use Rattle.std.specs.List.{filter_map}
 use Rattle.std.specs.Prelude.{Bool, List, None, Option, Some, [], false, if◌then◌else◌, not, true, ℕ, ◌&&◌, ◌++◌, ◌||◌, ◌∷◌}
+use Rattle.vhdl_overloads.specs.Literals.{literal_types}
 use Rattle.vhdl_tokens.specs.declared.token.Token.{Token}
 use Rattle.vhdl_types.specs.Faults.{at}
 use Rattle.vhdl_types.specs.Types.{element, is_enumeration}
@@ -32,15 +32,6 @@ use Rattle.vhdl_typing.specs.declared.told.TypeAttribute.TheVariants as type_att
 use Rattle.vhdl_units.specs.declared.values.ObjectAttribute.TheVariants as of_object
 
 -- ---- the identifier
-
--- the type of an enumeration literal
-unfoldable pub literal_type : Entry → Option BaseType
-literal_type (entry.Literal t position) = Some t
-literal_type _ = None
-
--- the types of overloaded literals; a region keeps a literal of a type once, at its first position
-unfoldable pub literal_types : List Entry → List BaseType
-literal_types entries = filter_map literal_type entries
 
 unfoldable pub object_name : Object → ObjectName
 object_name o = record { object = o; base = Some o.base; is_static = true; has_static_bounds = true }

@@ -7,8 +7,8 @@ use crate::attributes::{attribute_of, has_bounds, is_array_type, is_signal};
 use crate::changes::{becomes_value, gives, has_no_such, with_denoted};
 use crate::names::option_types;
 use crate::told::{Attribute, Denotes, NameTold, ObjectName, TypeAttribute};
-use sqlite_items::Items;
 use std::alloc::{AllocError, Global};
+use vhdl_overloads::Types;
 use vhdl_tokens::Token;
 use vhdl_types::BaseType;
 use vhdl_units::ObjectAttribute;
@@ -20,7 +20,7 @@ fn bound_of(alloc: Global, mut name: NameTold) -> Result<NameTold, AllocError>
     ensures { IfOk result (λ told. told ≡ spec.bound_of name) }
 {
     name.denotes = Denotes::Value;
-    name.types = Items::from_slice(alloc, &[BaseType::Integer])?;
+    name.types = Types::one(alloc, BaseType::Integer)?;
     name.is_static = true;
     name.reads = false;
     Ok(name)

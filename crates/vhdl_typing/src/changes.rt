@@ -8,6 +8,7 @@ use crate::faults::{append, at, without_bounds};
 use crate::told::{Denotes, NameTold, Told};
 use sqlite_items::Items;
 use std::alloc::{AllocError, Global};
+use vhdl_overloads::Types;
 use vhdl_types::{BaseType, Fault, Rule};
 
 /// What a name tells that is of the wrong kind for what follows it, or for its place.
@@ -18,7 +19,7 @@ pub(crate) fn wrong_kind(alloc: Global, mut name: NameTold) -> Result<NameTold, 
     let fault = at(alloc, name.place, Rule::WrongKind)?;
     name.names.append(fault)?;
     name.denotes = Denotes::Unknown;
-    name.types = Items::new(alloc);
+    name.types = Types::new();
     Ok(name)
 }
 
@@ -34,23 +35,23 @@ pub(crate) fn has_no_such(
     let fault = at(alloc, place, Rule::Attribute)?;
     name.names.append(fault)?;
     name.denotes = Denotes::Unknown;
-    name.types = Items::new(alloc);
+    name.types = Types::new();
     Ok(name)
 }
 
 /// What a name tells with an index or slice on what is no array.
 #[tactic(auto, unfolding(crate::specs::Names::misfits))]
-pub(crate) fn misfits(alloc: Global, denotes: Denotes, mut name: NameTold) -> NameTold
+pub(crate) fn misfits(denotes: Denotes, mut name: NameTold) -> NameTold
     ensures { result ≡ spec.misfits denotes name }
 {
     name.denotes = denotes;
-    name.types = Items::new(alloc);
+    name.types = Types::new();
     name.is_misfit = true;
     name
 }
 
 #[tactic(auto, unfolding(crate::specs::Names::becomes_value))]
-pub(crate) fn becomes_value(types: Items<BaseType>, mut name: NameTold) -> NameTold
+pub(crate) fn becomes_value(types: Types, mut name: NameTold) -> NameTold
     ensures { result ≡ spec.becomes_value types name }
 {
     name.denotes = Denotes::Value;
@@ -63,7 +64,7 @@ pub(crate) fn becomes_value(types: Items<BaseType>, mut name: NameTold) -> NameT
 pub(crate) fn gives(alloc: Global, base: BaseType, name: NameTold) -> Result<NameTold, AllocError>
     ensures { IfOk result (λ told. told ≡ spec.becomes_value (base ∷ []) name) }
 {
-    let types = Items::from_slice(alloc, &[base])?;
+    let types = Types::one(alloc, base)?;
     Ok(becomes_value(types, name))
 }
 

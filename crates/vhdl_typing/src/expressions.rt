@@ -11,6 +11,7 @@ use crate::told::{ChoiceTold, Form, ItemTold, Told};
 use sqlite_items::Items;
 use std::alloc::{AllocError, Global};
 use vhdl_operators::{all_arrays, narrow, relates, results, results_from};
+use vhdl_overloads::Types;
 use vhdl_tree::{Operator, Unary};
 use vhdl_types::{BaseType, Fault, Rule};
 
@@ -34,7 +35,7 @@ pub fn unary_told(
 ) -> Result<Told, AllocError>
     ensures { IfOk result (λ v. v ≡ spec.unary_told place operator operand) }
 {
-    let types = results_from(alloc, operator, operand.types.as_slice())?;
+    let types = results_from(alloc, operator, &operand.types)?;
     let told = without_place(alloc, operand)?;
     Ok(Told {
         place,
@@ -75,7 +76,7 @@ pub fn is_relation(operator: Operator) -> bool
 
 /// Whether the operator is a relation whose sides have no type that one of them has alone.
 #[tactic(auto, unfolding(crate::specs::Expressions::is_unrelated))]
-fn is_unrelated(operator: Operator, left: &[BaseType], right: &[BaseType]) -> bool
+fn is_unrelated(operator: Operator, left: &Types, right: &Types) -> bool
     ensures { result ≡ spec.is_unrelated operator left.now right.now }
 {
     is_relation(operator) && !relates(operator, left, right)
@@ -99,7 +100,7 @@ fn beside(alloc: Global, mut left: Told, right: Told) -> Result<Told, AllocError
 fn operated(
     alloc: Global,
     unrelated: bool,
-    types: Items<BaseType>,
+    types: Types,
     mut told: Told,
 ) -> Result<Told, AllocError>
     ensures { IfOk result (λ v. v ≡ spec.operated unrelated types told) }
@@ -126,13 +127,8 @@ pub fn joined(
 ) -> Result<Told, AllocError>
     ensures { IfOk result (λ v. v ≡ spec.joined left operator right) }
 {
-    let unrelated = is_unrelated(operator, left.types.as_slice(), right.types.as_slice());
-    let types = results(
-        alloc,
-        operator,
-        left.types.as_slice(),
-        right.types.as_slice(),
-    )?;
+    let unrelated = is_unrelated(operator, &left.types, &right.types);
+    let types = results(alloc, operator, &left.types, &right.types)?;
     operated(alloc, unrelated, types, beside(alloc, left, right)?)
 }
 
@@ -409,14 +405,14 @@ fn items_typing(alloc: Global, items: &[ItemTold]) -> Result<Items<Fault>, Alloc
 
 /// The types that an aggregate can have.
 #[tactic(auto, unfolding(crate::specs::Expressions::item_types, vhdl_operators::specs::Literals::aggregates))]
-fn aggregate_types(alloc: Global, items: &[ItemTold]) -> Result<Items<BaseType>, AllocError>
+fn aggregate_types(alloc: Global, items: &[ItemTold]) -> Result<Types, AllocError>
     ensures { IfOk result (λ v. v ≡ aggregates (map spec.item_types items.now)) }
 {
     let mut types = all_arrays(alloc)?;
     for item in items {
-        types = narrow(alloc, types.as_slice(), item.value.types.as_slice())?;
+        types = narrow(alloc, types.as_slice(), &item.value.types)?;
     }
-    Ok(types)
+    Ok(Types::from_items(types))
 }
 
 fn all_are_static(items: &[ItemTold]) -> bool

@@ -57,7 +57,7 @@ pub fn break_if(
 pub fn asks(alloc: Global, base: BaseType, told: &Told) -> Result<Items<Fault>, AllocError>
     ensures { IfOk result (λ faults. faults ≡ spec.asks base told.now) }
 {
-    let broken = !fits_alone(base, told.types.as_slice());
+    let broken = !fits_alone(base, &told.types);
     break_if(alloc, broken, told.names.as_slice(), told.place, Rule::Type)
 }
 

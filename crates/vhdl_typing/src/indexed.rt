@@ -53,7 +53,7 @@ fn element_named(
             asks(alloc, BaseType::Integer, told)?,
             with_denoted(part, name),
         ),
-        None => Ok(misfits(alloc, part, name)),
+        None => Ok(misfits(part, name)),
     }
 }
 
@@ -147,7 +147,7 @@ fn indexed_as(
         Denotes::Object(object) => {
             element_named(alloc, object, element_of(object.base), told, name)
         }
-        Denotes::Value => Ok(misfits(alloc, Denotes::Value, name)),
+        Denotes::Value => Ok(misfits(Denotes::Value, name)),
         Denotes::Function(function) => called(alloc, function, told, name),
         Denotes::TypeAttribute(attribute, base) => of_type(alloc, attribute, base, told, name),
         _ => wrong_kind(alloc, name),
@@ -193,7 +193,7 @@ fn slice_named(
         with_typing(asks_bounds(alloc, left, right)?, with_denoted(slice, name))
     } else {
         let slice = Denotes::Object(part_of(object, None, is_static));
-        Ok(misfits(alloc, slice, name))
+        Ok(misfits(slice, name))
     }
 }
 
@@ -213,7 +213,7 @@ fn sliced_as(
             let is_array = is_array_type(object.base);
             slice_named(alloc, object, is_array, left, right, name)
         }
-        Denotes::Value | Denotes::Now => Ok(misfits(alloc, Denotes::Value, name)),
+        Denotes::Value | Denotes::Now => Ok(misfits(Denotes::Value, name)),
         _ => wrong_kind(alloc, name),
     }
 }

@@ -18,8 +18,8 @@ mod trees;
 pub use attributes::{attribute_of, is_signal_class, is_static_class};
 pub use expressions::{choice_is_static, is_others, is_relation};
 pub use faults::{append, asks, at, break_if, is_known, typing_of, with_bounds, without_bounds};
-pub use literals::femtoseconds_in;
-pub use names::{begun, extended, finished, literal_types, value_of};
+pub use literals::{femtoseconds_in, unit_in};
+pub use names::{begun, extended, finished, value_of};
 pub use ranges::range_name;
 pub use scope::look;
 pub use told::{

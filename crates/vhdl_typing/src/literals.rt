@@ -6,15 +6,15 @@ ghost use Rattle.vhdl_tokens.specs.Meaning.{integer_of, span};
 ghost use Rattle.vhdl_tokens.specs.Values.{text_value};
 ghost use Rattle.vhdl_typing.specs.Literals as spec;
 ghost use Rattle.vhdl_typing.specs.Scope.{look};
-ghost use Rattle.vhdl_typing.specs.Names.{literal_types};
+ghost use Rattle.vhdl_overloads.specs.Literals.{literal_types};
 
 use crate::faults::at;
-use crate::names::literal_types;
 use crate::scope::look;
 use crate::told::{Form, Told};
 use sqlite_items::Items;
 use std::alloc::{AllocError, Global};
 use vhdl_operators::{of_bits, of_string};
+use vhdl_overloads::{Meanings, Types};
 use vhdl_scope::Regions;
 use vhdl_tokens::{Kind, Token, integer, string};
 use vhdl_types::{BaseType, Entry, Fault, Rule, TimeUnit};
@@ -66,11 +66,11 @@ fn is_time_value(number: Option<u128>, unit: TimeUnit) -> bool
 
 /// The unit that a name denotes.
 #[tactic(auto, unfolding(crate::specs::Literals::unit_in))]
-fn unit_in(entries: &[Entry]) -> Option<TimeUnit>
+pub fn unit_in(entries: &Meanings) -> Option<TimeUnit>
     ensures { result ≡ spec.unit_in entries.now }
 {
-    match entries {
-        [Entry::Unit(unit), ..] => Some(*unit),
+    match entries.first() {
+        Some(Entry::Unit(unit)) => Some(unit),
         _ => None,
     }
 }
@@ -89,7 +89,7 @@ fn too_large(alloc: Global, fits: bool, place: u32) -> Result<Items<Fault>, Allo
 
 /// What a literal tells.
 #[tactic(auto, unfolding(crate::specs::Literals::literal_told))]
-fn literal_told(alloc: Global, place: u32, typing: Items<Fault>, types: Items<BaseType>) -> Told
+fn literal_told(alloc: Global, place: u32, typing: Items<Fault>, types: Types) -> Told
     ensures { result ≡ spec.literal_told place typing types }
 {
     Told {
@@ -108,7 +108,7 @@ fn integer_told(alloc: Global, place: u32, number: Option<u128>) -> Result<Told,
     ensures { IfOk result (λ v. v ≡ spec.integer_told place number) }
 {
     let typing = too_large(alloc, is_integer_value(number), place)?;
-    let types = Items::from_slice(alloc, &[BaseType::Integer])?;
+    let types = Types::one(alloc, BaseType::Integer)?;
     Ok(literal_told(alloc, place, typing, types))
 }
 
@@ -139,7 +139,7 @@ fn time_told(
     ensures { IfOk result (λ v. v ≡ spec.time_told place number unit_place unit) }
 {
     let typing = time_typing(alloc, place, number, unit_place, unit)?;
-    let types = Items::from_slice(alloc, &[BaseType::Time])?;
+    let types = Types::one(alloc, BaseType::Time)?;
     Ok(literal_told(alloc, place, typing, types))
 }
 
@@ -177,16 +177,16 @@ pub fn number_told(
 
 /// The types of a string literal whose value is known.
 #[tactic(auto, unfolding(crate::specs::Literals::string_types))]
-fn string_types(alloc: Global, value: Option<Vec<u8>>) -> Result<Items<BaseType>, AllocError>
+fn string_types(alloc: Global, value: Option<Vec<u8>>) -> Result<Types, AllocError>
     ensures { IfOk result (λ v. v ≡ spec.string_types (option_map (λ bytes. bytes.items) value)) }
 {
     match value {
         Some(bytes) => of_string(alloc, &bytes),
-        None => Ok(Items::new(alloc)),
+        None => Ok(Types::new()),
     }
 }
 
-fn text_types(alloc: Global, text: &[u8], token: &Token) -> Result<Items<BaseType>, AllocError>
+fn text_types(alloc: Global, text: &[u8], token: &Token) -> Result<Types, AllocError>
     ensures { IfOk result (λ v. v ≡ spec.string_types (text_value (span text.now token.now))) }
 {
     let value = string(alloc, text, token)?;
@@ -199,11 +199,11 @@ fn character_types(
     text: &[u8],
     regions: &Regions,
     token: &Token,
-) -> Result<Items<BaseType>, AllocError>
+) -> Result<Types, AllocError>
     ensures { IfOk result (λ v. v ≡ literal_types (look text.now regions.now token.now)) }
 {
     let entries = look(alloc, text, regions, token)?;
-    literal_types(alloc, &entries)
+    Ok(Types::of_literals(entries))
 }
 
 #[tactic(auto, unfolding(crate::specs::Literals::spelled_types))]
@@ -212,14 +212,14 @@ fn spelled_types(
     text: &[u8],
     regions: &Regions,
     token: &Token,
-) -> Result<Items<BaseType>, AllocError>
+) -> Result<Types, AllocError>
     ensures { IfOk result (λ v. v ≡ spec.spelled_types token.now.kind (span text.now token.now) (look text.now regions.now token.now)) }
 {
     match token.kind {
         Kind::Char => character_types(alloc, text, regions, token),
         Kind::Text => text_types(alloc, text, token),
         Kind::Bits => of_bits(alloc),
-        _ => Ok(Items::new(alloc)),
+        _ => Ok(Types::new()),
     }
 }
 

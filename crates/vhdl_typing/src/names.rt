@@ -1,6 +1,5 @@
 //! What names denote (8, 12): an identifier, and part by part what follows it.
 
-ghost use Rattle.std.specs.List.{filter_map};
 ghost use Rattle.std.specs.Prelude.{◌≡◌, IfOk};
 ghost use Rattle.vhdl_typing.specs.Names as spec;
 ghost use Rattle.vhdl_typing.specs.declared.told.Form.TheVariants as form;
@@ -13,37 +12,8 @@ use crate::indexed::{indexed, sliced};
 use crate::told::{Denotes, Form, NameTold, ObjectName, PartTold, Told};
 use sqlite_items::Items;
 use std::alloc::{AllocError, Global};
+use vhdl_overloads::{Meanings, Types};
 use vhdl_types::{BaseType, Entry, Function, Object, Rule};
-
-/// The type of an enumeration literal.
-#[tactic(auto, unfolding(crate::specs::Names::literal_type))]
-fn literal_type(entry: Entry) -> Option<BaseType>
-    ensures { result ≡ spec.literal_type entry }
-{
-    match entry {
-        Entry::Literal(base, _) => Some(base),
-        _ => None,
-    }
-}
-
-fn types_of(alloc: Global, entries: &[Entry]) -> Result<Vec<BaseType>, AllocError>
-    ensures { IfOk result (λ types. types.items ≡ filter_map spec.literal_type entries.now) }
-{
-    entries
-        .iter()
-        .filter_map(|entry| literal_type(*entry))
-        .collect(alloc)
-}
-
-/// The types of overloaded enumeration literals, in their order (12.3). Each stands there once where no two of
-/// the entries are literals of one type.
-#[tactic(auto, unfolding(crate::specs::Names::literal_types))]
-pub fn literal_types(alloc: Global, entries: &[Entry]) -> Result<Items<BaseType>, AllocError>
-    ensures { IfOk result (λ types. types ≡ spec.literal_types entries.now) }
-{
-    let types = types_of(alloc, entries)?;
-    Ok(Items::from_vec(types))
-}
 
 #[tactic(auto, unfolding(crate::specs::Names::object_name))]
 fn object_name(object: Object) -> ObjectName
@@ -104,7 +74,7 @@ fn undeclared(alloc: Global, place: u32) -> Result<NameTold, AllocError>
         names,
         typing: Items::new(alloc),
         denotes: Denotes::Unknown,
-        types: Items::new(alloc),
+        types: Types::new(),
         is_static: false,
         reads: false,
         is_misfit: false,
@@ -113,7 +83,7 @@ fn undeclared(alloc: Global, place: u32) -> Result<NameTold, AllocError>
 
 /// What an identifier tells that denotes `entry`, and has `types` as those of a literal.
 #[tactic(auto, unfolding(crate::specs::Names::declared))]
-fn declared(alloc: Global, place: u32, entry: Entry, types: Items<BaseType>) -> NameTold
+fn declared(alloc: Global, place: u32, entry: Entry, types: Types) -> NameTold
     ensures { result ≡ spec.declared place entry types }
 {
     NameTold {
@@ -131,15 +101,12 @@ fn declared(alloc: Global, place: u32, entry: Entry, types: Items<BaseType>) -> 
 /// What the identifier at `place`, in bytes from 0, tells by the entries that it denotes: none where it isn't
 /// declared, one, or several literals (12.3).
 #[tactic(auto, unfolding(crate::specs::Names::begun))]
-pub fn begun(alloc: Global, place: u32, entries: &[Entry]) -> Result<NameTold, AllocError>
-    ensures { IfOk result (λ name. name ≡ spec.begun place entries.now) }
+pub fn begun(alloc: Global, place: u32, entries: Meanings) -> Result<NameTold, AllocError>
+    ensures { IfOk result (λ name. name ≡ spec.begun place entries) }
 {
-    match entries {
-        [] => undeclared(alloc, place),
-        [entry, ..] => {
-            let types = literal_types(alloc, entries)?;
-            Ok(declared(alloc, place, *entry, types))
-        }
+    match entries.first() {
+        None => undeclared(alloc, place),
+        Some(entry) => Ok(declared(alloc, place, entry, Types::of_literals(entries))),
     }
 }
 
@@ -178,7 +145,7 @@ pub fn finished(alloc: Global, mut name: NameTold) -> Result<NameTold, AllocErro
 }
 
 #[tactic(auto, unfolding(crate::specs::Names::told_as))]
-fn told_as(form: Form, types: Items<BaseType>, name: NameTold) -> Told
+fn told_as(form: Form, types: Types, name: NameTold) -> Told
     ensures { result ≡ spec.told_as form types name }
 {
     Told {
@@ -203,7 +170,7 @@ fn no_value(alloc: Global, name: NameTold) -> Result<Told, AllocError>
         place: name.place,
         names,
         typing: name.typing,
-        types: Items::new(alloc),
+        types: Types::new(),
         is_static: name.is_static,
         reads: name.reads,
         form: Form::Unknown,
@@ -212,15 +179,12 @@ fn no_value(alloc: Global, name: NameTold) -> Result<Told, AllocError>
 
 /// The type there is, or none.
 #[tactic(auto, unfolding(crate::specs::Names::option_types))]
-pub(crate) fn option_types(
-    alloc: Global,
-    base: Option<BaseType>,
-) -> Result<Items<BaseType>, AllocError>
+pub(crate) fn option_types(alloc: Global, base: Option<BaseType>) -> Result<Types, AllocError>
     ensures { IfOk result (λ types. types ≡ spec.option_types base) }
 {
     match base {
-        Some(base) => Items::from_slice(alloc, &[base]),
-        None => Ok(Items::new(alloc)),
+        Some(base) => Types::one(alloc, base),
+        None => Ok(Types::new()),
     }
 }
 
@@ -246,14 +210,14 @@ pub fn value_of(alloc: Global, name: NameTold) -> Result<Told, AllocError>
     ensures { IfOk result (λ told. told ≡ spec.value_of name) }
 {
     match name.denotes {
-        Denotes::Unknown => Ok(told_as(Form::Unknown, Items::new(alloc), name)),
+        Denotes::Unknown => Ok(told_as(Form::Unknown, Types::new(), name)),
         Denotes::Object(object) => {
             let types = option_types(alloc, object.base)?;
             Ok(told_as(Form::Object(object), types, name))
         }
         Denotes::Value => Ok(value(name)),
         Denotes::Now => {
-            let types = Items::from_slice(alloc, &[BaseType::Time])?;
+            let types = Types::one(alloc, BaseType::Time)?;
             Ok(told_as(Form::Value, types, name))
         }
         _ => no_value(alloc, name),

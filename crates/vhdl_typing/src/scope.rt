@@ -4,9 +4,9 @@ ghost use Rattle.std.specs.Prelude.{◌≡◌, IfOk};
 ghost use Rattle.vhdl_typing.specs.Scope as spec;
 
 use std::alloc::{AllocError, Global};
+use vhdl_overloads::Meanings;
 use vhdl_scope::{Regions, word};
 use vhdl_tokens::Token;
-use vhdl_types::Entry;
 
 /// What a token of a text denotes as a name in the open regions (12.3).
 #[tactic(auto, unfolding(crate::specs::Scope::look))]
@@ -15,8 +15,8 @@ pub fn look(
     text: &[u8],
     regions: &Regions,
     token: &Token,
-) -> Result<Vec<Entry>, AllocError>
-    ensures { IfOk result (λ entries. entries.items ≡ spec.look text.now regions.now token.now) }
+) -> Result<Meanings, AllocError>
+    ensures { IfOk result (λ entries. entries ≡ spec.look text.now regions.now token.now) }
 {
     let name = word(alloc, text, token)?;
     regions.meanings(alloc, name.as_str())

@@ -1,6 +1,7 @@
 //! What is known of an expression before its place says which of its types is meant.
 
 use sqlite_items::Items;
+use vhdl_overloads::Types;
 use vhdl_tokens::Token;
 use vhdl_tree::Operator;
 use vhdl_types::{BaseType, Fault, Function, Mark, Object};
@@ -66,7 +67,7 @@ pub struct NameTold {
     pub typing: Items<Fault>,
     pub denotes: Denotes,
     /// The types that it can have as a value.
-    pub types: Items<BaseType>,
+    pub types: Types,
     /// Whether it is globally static as a value (9.4.3).
     pub is_static: bool,
     /// Whether its value hangs on that of a signal or variable.
@@ -97,7 +98,7 @@ pub struct Told {
     /// The breaks in it of the rules of types, aggregates and numbers.
     pub typing: Items<Fault>,
     /// The types that it can have.
-    pub types: Items<BaseType>,
+    pub types: Types,
     /// Whether it is globally static (9.4.3).
     pub is_static: bool,
     /// Whether its value hangs on that of a signal or variable.

@@ -144,7 +144,7 @@ pub fn tell_name(
     ensures { IfOk result (λ v. v ≡ spec.told_name text.now (look text.now regions.now) name.now) }
 {
     let entries = look(alloc, text, regions, &name.identifier)?;
-    let first = begun(alloc, name.identifier.start, &entries)?;
+    let first = begun(alloc, name.identifier.start, entries)?;
     let told = tell_parts(alloc, text, regions, first, name.parts.as_slice())?;
     finished(alloc, told)
 }

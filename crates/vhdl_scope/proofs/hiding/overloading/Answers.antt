@@ -1,7 +1,8 @@
 use Rattle.vhdl_scope.specs.Declarations.{own}
 use Rattle.vhdl_scope.specs.Hiding.{seen}
 use Rattle.vhdl_scope.specs.Nesting.{regions}
-use Rattle.vhdl_scope.proofs.Lists.{seen_alone, met_other, met_keeps_literals, met_undeclared}
+use Rattle.vhdl_overloads.proofs.Lists.{met_other}
+use Rattle.vhdl_scope.proofs.Lists.{seen_alone, met_keeps_literals, met_undeclared}
 use Rattle.vhdl_scope.proofs.hiding.overloading.Goals as goal
 
 pub returns-clause-alone : goal.returns-clause-alone

@@ -5,4 +5,4 @@ use Rattle.vhdl_scope.specs.Nesting.{single}
 use Rattle.vhdl_scope.proofs.regions.Open.seen.Given as goal
 
 abbrev pub invariant-loop-parameter : goal.invariant-loop-parameter
-invariant-loop-parameter l = l.all.items ≡ seen l.name (map single (reverse (take l.parameter-index l.parameter-items))) l.initial.all.items
+invariant-loop-parameter l = l.all ≡ seen l.name (map single (reverse (take l.parameter-index l.parameter-items))) l.initial.all

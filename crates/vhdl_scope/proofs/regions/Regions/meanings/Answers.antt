@@ -11,4 +11,4 @@ loop-region-preserved c =
 pub returns : goal.returns
 returns c =
     rw (← c.self.view_is, ← c.deref-region-items.ensures.value)
-    (subst (λ (xs : List Entry). IfOk c.seen-2.result (λ v. v.items ≡ xs)) (all_seen _ _ _ c.self.inside.inner _ c.loop-region-test.false c.loop-region.invariant) c.seen-2.ensures)
+    (subst (λ (xs : List Entry). IfOk c.seen-2.result (λ v. v ≡ xs)) (all_seen _ _ _ c.self.inside.inner _ c.loop-region-test.false c.loop-region.invariant) c.seen-2.ensures)

@@ -5,4 +5,4 @@ use Rattle.vhdl_scope.specs.Nesting.{regions_in}
 use Rattle.vhdl_scope.proofs.regions.Regions.meanings.Given as goal
 
 abbrev pub invariant-loop-region : goal.invariant-loop-region
-invariant-loop-region l = l.found.items ≡ seen l.name (flat_map regions_in (reverse (take l.region-index l.region-items))) []
+invariant-loop-region l = l.found ≡ seen l.name (flat_map regions_in (reverse (take l.region-index l.region-items))) []

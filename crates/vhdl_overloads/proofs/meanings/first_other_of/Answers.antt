@@ -1,7 +1,7 @@
 use Rattle.std.proofs.Common.{sym, ◌∙◌}
-use Rattle.vhdl_scope.specs.Declarations.{is_other}
-use Rattle.vhdl_scope.proofs.Lists.{find_append, find_front}
-use Rattle.vhdl_scope.proofs.hiding.first_other_of.Goals as goal
+use Rattle.vhdl_overloads.specs.Literals.{is_other}
+use Rattle.vhdl_overloads.proofs.Lists.{find_append, find_front}
+use Rattle.vhdl_overloads.proofs.meanings.first_other_of.Goals as goal
 
 pub returns-in-Some : goal.returns-in-Some
 returns-in-Some c = sym (find_front is_other c.args.base.now c.args.more.now _ (sym c.in-Some.ensures))

@@ -1,0 +1,86 @@
+//! Overloaded literals that are shared between uses, worked out by hand.
+
+use crate::lists::{denoted, listed, meanings};
+use std::alloc::{AllocError, Global};
+use std::test::Fail;
+use vhdl_overloads::{Meanings, Overloads, Types, met};
+use vhdl_types::{BaseType, Class, Entry, Object};
+
+const SIGNAL: Entry = Entry::Object(Object {
+    number: 0,
+    class: Class::Signal,
+    base: BaseType::Bit,
+});
+
+fn literal(number: usize, position: usize) -> Entry {
+    Entry::Literal(BaseType::Own(number), position)
+}
+
+fn overloads(alloc: Global, list: &[Entry]) -> Result<Overloads, AllocError> {
+    let mut own = Overloads::new(alloc);
+    for entry in list {
+        own.push(*entry)?;
+    }
+    Ok(own)
+}
+
+// What a process and its architecture declare, inside what is always visible.
+fn nested(
+    alloc: Global,
+    process: &[Entry],
+    architecture: &[Entry],
+) -> Result<Meanings, AllocError> {
+    let none = Overloads::new(alloc);
+    let visible = meanings(alloc, &[Entry::Literal(BaseType::Bit, 0)])?;
+    let around = met(alloc, &overloads(alloc, architecture)?, &none, visible)?;
+    met(alloc, &overloads(alloc, process)?, &none, around)
+}
+
+#[test]
+fn literals_are_found_by_type(rt: HostRuntime) -> Result<(), Fail> {
+    let process = [literal(30, 1), literal(30, 5)];
+    let architecture = [literal(20, 2), literal(21, 3)];
+    let found = nested(rt.alloc(), &process, &architecture)?;
+    for (base, want) in [
+        (BaseType::Own(30), Some(1)),
+        (BaseType::Own(20), Some(2)),
+        (BaseType::Own(21), Some(3)),
+        (BaseType::Bit, Some(0)),
+        (BaseType::Own(22), None),
+        (BaseType::Character, None),
+    ] {
+        assert!(rt; found.position(base) == want);
+    }
+    let types = Types::of_literals(found);
+    assert!(rt; types.len() == 5 && types.has(BaseType::Bit) && !types.has(BaseType::Own(22)));
+    let want = [30, 30, 20, 21].map(BaseType::Own);
+    let list = listed(rt.alloc(), &types)?;
+    assert!(rt; list.starts_with(want.as_slice()) && types.get(4) == Some(BaseType::Bit));
+    Ok(())
+}
+
+#[test]
+fn what_is_no_literal_hides(rt: HostRuntime) -> Result<(), Fail> {
+    let hidden = nested(rt.alloc(), &[literal(30, 0), SIGNAL], &[literal(20, 0)])?;
+    assert_eq!(rt;
+        denoted(rt.alloc(), &hidden)?.as_slice(),
+        [SIGNAL].as_slice()
+    );
+    assert!(rt; Types::of_literals(hidden).len() == 0);
+    let literals = nested(rt.alloc(), &[literal(30, 0)], &[SIGNAL])?;
+    let list = denoted(rt.alloc(), &literals)?;
+    assert_eq!(rt; list.as_slice(), [literal(30, 0)].as_slice());
+    Ok(())
+}
+
+#[test]
+fn a_use_keeps_what_it_found(rt: HostRuntime) -> Result<(), Fail> {
+    let mut own = overloads(rt.alloc(), &[literal(30, 1)])?;
+    let none = Overloads::new(rt.alloc());
+    let found = met(rt.alloc(), &own, &none, Meanings::new(rt.alloc()))?;
+    own.push(literal(31, 2))?;
+    assert!(rt; found.len() == 1 && found.position(BaseType::Own(31)) == None);
+    assert!(rt; own.position(BaseType::Own(31)) == Some(2));
+    assert_eq!(rt; own.entries(), [literal(30, 1), literal(31, 2)].as_slice());
+    Ok(())
+}

@@ -1,0 +1,5 @@
+pub mod Literals
+pub mod Tables
+pub mod Hiding
+pub mod Finds
+pub mod Kinds

@@ -49,8 +49,15 @@ def chain(operand, operator, front, back, taken=0):
     return front + operand + piece * (room // len(piece)) + back
 
 
+def loops(count):
+    return process("", each(count, lambda n: "for i in x to y loop null; end loop;"))
+
+
 MANY = 20000
 OVERLOADED = each(MANY, lambda n: f"type t{n} is (x);")
+# Two literals of as many types, which share the last alone.
+IN_TURN = each(29000, lambda n: f"type t{n} is ({'xy'[n % 2]});") + "type t is (x,y);\n"
+IN_HALVES = each(29000, lambda n: f"type t{n} is ({'xy'[n // 14500]});") + "type t is (x,y);\n"
 
 TEXTS = {
     "signals, each used twice": design(signals(MANY), assigned(MANY)),
@@ -72,10 +79,9 @@ TEXTS = {
     "one expression of such literals": design(
         OVERLOADED + "signal s:t7;\nsignal b:boolean;\n", chain("s=x", " or ", "b<=", ";\n", len(OVERLOADED))
     ),
-    "ranges of such literals": design(
-        OVERLOADED + "type t is (x,y);\n",
-        process("", each(MANY // 2, lambda n: "for i in x to y loop null; end loop;")),
-    ),
+    "ranges of such literals": design(OVERLOADED + "type t is (x,y);\n", loops(MANY // 2)),
+    "ranges of two such literals": design(IN_TURN, loops(12900)),
+    "ranges of two others": design(IN_HALVES, loops(12900)),
     "choices": design(
         "",
         process("variable n:integer;\n", "case n is\n" + each(58000, lambda n: f"when {n}=>null;") + "when others=>null; end case;\n"),

@@ -3,6 +3,7 @@
 use crate::lists::{denoted, listed, meanings};
 use std::alloc::{AllocError, Global};
 use std::test::Fail;
+use vhdl_operators::common_discrete;
 use vhdl_overloads::{Meanings, Overloads, Types, met};
 use vhdl_types::{BaseType, Class, Entry, Object};
 
@@ -82,5 +83,64 @@ fn a_use_keeps_what_it_found(rt: HostRuntime) -> Result<(), Fail> {
     assert!(rt; found.len() == 1 && found.position(BaseType::Own(31)) == None);
     assert!(rt; own.position(BaseType::Own(31)) == Some(2));
     assert_eq!(rt; own.entries(), [literal(30, 1), literal(31, 2)].as_slice());
+    Ok(())
+}
+
+// Two literals by the numbers of their types, and the one type that both have. Types go in blocks of 128.
+const BOUNDS: [(&[usize], &[usize], Option<usize>); 10] = [
+    (&[], &[1], None),
+    (&[0, 127, 128], &[1, 126, 129], None),
+    (&[0, 127, 128], &[127], Some(127)),
+    (&[0, 127, 128], &[128, 300], Some(128)),
+    (&[0, 128, 256], &[0, 256], None),
+    (&[5, 300, 5000], &[6, 301, 5000, 5001], Some(5000)),
+    (&[0, 1, 2, 3, 4], &[5, 6, 7, 4], Some(4)),
+    (&[300, 5, 301], &[5, 400], Some(5)),
+    (&[300, 5, 301], &[301, 6], Some(301)),
+    (&[300, 5, 301], &[300, 301], None),
+];
+
+fn bound(alloc: Global, numbers: &[usize]) -> Result<Types, AllocError> {
+    let mut own = Overloads::new(alloc);
+    for number in numbers {
+        own.push(literal(*number, 0))?;
+    }
+    let found = met(alloc, &own, &Overloads::new(alloc), Meanings::new(alloc))?;
+    Ok(Types::of_literals(found))
+}
+
+#[test]
+fn bounds_share_one_type(rt: HostRuntime) -> Result<(), Fail> {
+    for (left, right, want) in &BOUNDS {
+        let left = bound(rt.alloc(), left)?;
+        let right = bound(rt.alloc(), right)?;
+        let want = want.map(BaseType::Own);
+        assert!(rt; common_discrete(&left, &right) == want);
+        assert!(rt; common_discrete(&right, &left) == want);
+    }
+    Ok(())
+}
+
+#[test]
+fn bounds_share_types_of_all_regions(rt: HostRuntime) -> Result<(), Fail> {
+    let found = nested(
+        rt.alloc(),
+        &[literal(300, 0)],
+        &[literal(20, 0), literal(200, 0)],
+    )?;
+    let left = Types::of_literals(found);
+    for (numbers, want) in [
+        ([20, 21].as_slice(), Some(20)),
+        ([199, 200].as_slice(), Some(200)),
+        ([301, 300].as_slice(), Some(300)),
+        ([300, 20].as_slice(), None),
+        ([21, 199, 301, 302].as_slice(), None),
+    ] {
+        let right = bound(rt.alloc(), numbers)?;
+        assert!(rt; common_discrete(&left, &right) == want.map(BaseType::Own));
+    }
+    let bit = Types::of_literals(meanings(rt.alloc(), &[Entry::Literal(BaseType::Bit, 0)])?);
+    assert!(rt; common_discrete(&left, &bit) == Some(BaseType::Bit));
+    assert!(rt; common_discrete(&bit, &left) == Some(BaseType::Bit));
     Ok(())
 }

@@ -40,8 +40,9 @@ fn begin_for(
     ensures faults { IfOk result (λ faults. faults ≡ spec.loop_faults text.now around.old (scheme_of.For token.now bounds.now)) }
 {
     let told = bounds_here(alloc, text, around, bounds)?;
-    let entry = parameter(around.next_number(), loop_type(&told));
-    let faults = loop_range(alloc, told)?;
+    let base = loop_type(&told);
+    let entry = parameter(around.next_number(), base);
+    let faults = loop_range(alloc, told, base)?;
     let name = word(alloc, text, token)?;
     around.add_parameter(name, entry)?;
     Ok(faults)

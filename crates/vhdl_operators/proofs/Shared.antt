@@ -1,7 +1,7 @@
 -- The one type of a set that passes a test, where each is tested in turn.
-use Rattle.std.proofs.Common.{◌≡◌, ◌<◌, ◌≤◌, ◌+◌, ℕ, Bool, true, false, cond, List, [], ◌∷◌, ◌++◌, refl, sym, ap, ◌∙◌, rules, length, drop, get_or, filter, Option, if◌then◌else◌}
-use Rattle.std.specs.Prelude.{Some, None, is_some, option_to_list, slice_get}
-use Rattle.std.proofs.lemmas.List.{at_drop_more, at_drop_all, append-nil, append_assoc}
+use Rattle.std.proofs.Common.{◌≡◌, ◌<◌, ◌≤◌, ◌+◌, ℕ, Bool, true, false, cond, List, ◌∷◌, ◌++◌, refl, sym, ap, ◌∙◌, length, drop, get_or, filter, Option, if◌then◌else◌}
+use Rattle.std.specs.Prelude.{Some, None, is_some, option_to_list}
+use Rattle.std.proofs.lemmas.List.{at_drop_more, at_drop_all, append-nil}
 use Rattle.std.proofs.lemmas.Option.{slice_get-get_or}
 use Rattle.vhdl_types.specs.declared.base_type.BaseType.{BaseType}
 use Rattle.vhdl_types.specs.declared.base_type.BaseType.TheVariants as base

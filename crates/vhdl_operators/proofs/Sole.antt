@@ -1,60 +1,47 @@
--- The one type that two sets have in common: it is found in the one as in the other, where each type is looked at in turn.
-use Rattle.std.proofs.Common.{◌≡◌, ◌<◌, ◌≤◌, ◌+◌, ℕ, ◌&&◌, ◌||◌, not, Bool, true, false, cond, List, [], ◌∷◌, ◌++◌, refl, sym, ap, ◌∙◌, inl, inr, rules, length, drop, filter, Option, if◌then◌else◌}
-use Rattle.std.specs.Prelude.{Some, None, option_to_list}
+-- The one type that two sets have in common: it is the one that they share, and the same in either order.
+use Rattle.std.proofs.Common.{◌≡◌, ◌&&◌, Bool, true, false, List, [], ◌∷◌, refl, sym, ap, ◌∙◌, inl, inr, rules, filter, Option, if◌then◌else◌}
+use Rattle.std.specs.Prelude.{Some, None}
 use Rattle.std.specs.List.{list_all}
-use Rattle.std.proofs.lemmas.Bool.{and_parts, and_from, or_left, or_right, or_cases, not-true}
-use Rattle.std.proofs.lemmas.List.{at_drop_all}
+use Rattle.std.proofs.lemmas.Bool.{and_parts, and_from, or_left, or_right, or_cases}
 use Rattle.vhdl_types.specs.declared.base_type.BaseType.{BaseType}
 use Rattle.vhdl_types.specs.Types.{is_discrete, same}
 use Rattle.vhdl_operators.specs.Sets.{has}
-use Rattle.vhdl_operators.specs.Places.{sole, sole_with, differ, first_of, is_common_discrete, common_discrete, passing_at}
+use Rattle.vhdl_overloads.specs.declared.shared.Shared.{Shared}
+use Rattle.vhdl_overloads.specs.declared.shared.Shared.TheVariants as met
+use Rattle.vhdl_overloads.specs.Sharing.{one_more, all_more, is_shared, shared}
+use Rattle.vhdl_operators.specs.Places.{sole, is_common_discrete, common_discrete}
 use Rattle.vhdl_operators.proofs.Members.{same_self, same_is, has_filter}
-use Rattle.vhdl_operators.proofs.Shared.{one_on}
 
--- ---- one type after the other
+-- ---- it is the one type that is shared
 
-negated : (b : Bool) → not b ≡ false → b ≡ true
-negated true d = refl
-negated false d = absurd cc
+abbrev one_of : Shared → Option BaseType
+one_of met.Nothing = None
+one_of (met.One t) = Some t
+one_of met.Several = None
 
-same_if : (t u : BaseType) → not (same t u) ≡ false → same t u ≡ true
-same_if t u d = negated (same t u) d
+after_several : (types : List BaseType) → all_more met.Several types ≡ met.Several
+unfolding all_more one_more
+after_several [] = refl
+after_several (t ∷ types) = after_several types
 
-step : (common next : Option BaseType) (rest : List BaseType) → differ common next ≡ false → sole_with common (option_to_list next ++ rest) ≡ sole_with (first_of common next) rest
-unfolding sole_with sole differ first_of
-step None None rest d = refl
-step None (Some t) rest d = refl
-step (Some t) None rest d = refl
-step (Some t) (Some u) rest d = ap (λ b. if (b && list_all (same t) rest) then Some t else None) (same_if t u d)
+one_or_not : (b : Bool) (t : BaseType) (types : List BaseType) → one_of (all_more (met.One t) types) ≡ (if list_all (same t) types then Some t else None)
+    → one_of (all_more (if b then met.One t else met.Several) types) ≡ (if (b && list_all (same t) types) then Some t else None)
+one_or_not true t types h = h
+one_or_not false t types h = ap one_of (after_several types)
 
-two : (common next : Option BaseType) (rest : List BaseType) → differ common next ≡ true → None ≡ sole_with common (option_to_list next ++ rest)
-unfolding sole_with differ
-two (Some t) (Some u) rest d = ap (λ b. if (b && list_all (same t) rest) then Some t else None) (sym (not-true (same t u) d))
-two None next rest d = absurd cc
-two (Some t) None rest d = absurd cc
+after_one : (t : BaseType) (types : List BaseType) → one_of (all_more (met.One t) types) ≡ (if list_all (same t) types then Some t else None)
+unfolding all_more one_more
+after_one t [] = refl
+after_one t (u ∷ types) = one_or_not (same t u) t types (after_one t types)
 
-pub one_more : (p : BaseType → Bool) (types : List BaseType) (i : ℕ) (common next : Option BaseType) → i < length types → next ≡ passing_at p types i → differ common next ≡ false
-    → sole_with common (filter p (drop i types)) ≡ sole (filter p types) → sole_with (first_of common next) (filter p (drop (i + 1) types)) ≡ sole (filter p types)
-one_more p types i common next h e d inv =
-    sym (step common next (filter p (drop (i + 1) types)) d)
-    ∙ ap (λ o. sole_with common (option_to_list o ++ filter p (drop (i + 1) types))) e
-    ∙ ap (sole_with common) (sym (one_on p types i h)) ∙ inv
+one_is_sole : (types : List BaseType) → one_of (all_more met.Nothing types) ≡ sole types
+unfolding all_more one_more sole
+one_is_sole [] = refl
+one_is_sole (t ∷ types) = after_one t types
 
-pub another : (p : BaseType → Bool) (types : List BaseType) (i : ℕ) (common next : Option BaseType) → i < length types → next ≡ passing_at p types i → differ common next ≡ true
-    → sole_with common (filter p (drop i types)) ≡ sole (filter p types) → None ≡ sole (filter p types)
-another p types i common next h e d inv =
-    two common next (filter p (drop (i + 1) types)) d
-    ∙ ap (λ o. sole_with common (option_to_list o ++ filter p (drop (i + 1) types))) e
-    ∙ ap (sole_with common) (sym (one_on p types i h)) ∙ inv
-
-nothing_left : (common : Option BaseType) → common ≡ sole_with common []
-unfolding sole_with sole
-nothing_left None = refl
-nothing_left (Some t) = refl
-
-pub all_seen : (p : BaseType → Bool) (types : List BaseType) (i : ℕ) (common : Option BaseType) → length types ≤ i
-    → sole_with common (filter p (drop i types)) ≡ sole (filter p types) → common ≡ sole (filter p types)
-all_seen p types i common h inv = nothing_left common ∙ sym (at_drop_all (λ xs. sole_with common (filter p xs)) types i h) ∙ inv
+pub common_one : (ls rs : List BaseType) (s k : Shared) → s ≡ shared ls rs → s ≡ k → one_of k ≡ common_discrete ls rs
+unfolding shared common_discrete is_common_discrete is_shared has
+common_one ls rs s k h is = ap one_of (sym is ∙ h) ∙ one_is_sole (filter (is_shared rs) ls)
 
 -- ---- what it means
 

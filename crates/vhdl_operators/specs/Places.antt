@@ -1,9 +1,8 @@
 -- What a place asks of the types that an expression there can have (IEEE Std 1076-2008, clause 12.5): that exactly
 -- one of them fits.
 use Rattle.std.specs.List.{list_all}
-use Rattle.std.specs.Prelude.{ℕ, Bool, false, not, ◌&&◌, Option, Some, None, List, [], ◌∷◌, filter, slice_get, if◌then◌else◌}
+use Rattle.std.specs.Prelude.{ℕ, Bool, ◌&&◌, Option, Some, None, List, [], ◌∷◌, filter, slice_get, if◌then◌else◌}
 use Rattle.vhdl_types.specs.declared.base_type.BaseType.{BaseType}
-use Rattle.vhdl_types.specs.declared.base_type.BaseType.TheVariants as base
 use Rattle.vhdl_types.specs.Types.{is_discrete, same}
 use Rattle.vhdl_operators.specs.Sets.{has}
 
@@ -28,19 +27,6 @@ unfoldable pub common_discrete : List BaseType → List BaseType → Option Base
 common_discrete ls rs = sole (filter (is_common_discrete rs) ls)
 
 -- ---- how it is found
-
--- the type in a list that has no other, where `found` was found before
-unfoldable pub sole_with : Option BaseType → List BaseType → Option BaseType
-sole_with None types = sole types
-sole_with (Some t) types = if list_all (same t) types then Some t else None
-
-unfoldable pub differ : Option BaseType → Option BaseType → Bool
-differ (Some t) (Some u) = not (same t u)
-differ _ _ = false
-
-unfoldable pub first_of : Option BaseType → Option BaseType → Option BaseType
-first_of (Some t) other = Some t
-first_of None other = other
 
 -- the type at a place, where it passes a test
 unfoldable pub if_passes : (BaseType → Bool) → Option BaseType → Option BaseType

@@ -2,8 +2,8 @@
 //! have, and what a place asks of such a set (IEEE Std 1076-2008, clauses 9.2, 9.3 and 12.5).
 //!
 //! A set of types is a list without repeats. It may be long, since a literal can stand in each enumeration
-//! type of a design: every call looks a few types up in it. `common_discrete` looks each type of the smaller
-//! of two sets up in the other.
+//! type of a design: every call looks a few types up in it, and `common_discrete` goes through the smaller of
+//! two sets.
 #![tactic(auto)]
 
 pub mod laws;

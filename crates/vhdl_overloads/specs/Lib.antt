@@ -3,3 +3,5 @@ pub mod Tables
 pub mod Hiding
 pub mod Finds
 pub mod Kinds
+pub mod Blocks
+pub mod Sharing

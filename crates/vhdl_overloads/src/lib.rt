@@ -5,12 +5,15 @@
 //! up among them by its type, so that a use of it costs no more where more types have it.
 #![tactic(auto)]
 
+mod blocks;
 mod literals;
 mod meanings;
 mod overloads;
+mod shared;
 mod table;
 mod types;
 
 pub use meanings::{Meanings, met};
 pub use overloads::Overloads;
+pub use shared::Shared;
 pub use types::Types;

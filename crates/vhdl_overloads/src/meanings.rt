@@ -36,7 +36,7 @@ fn entry_at(segments: &[Overloads], place: usize) -> Option<Entry>
 }
 
 // The position of the first literal of the type `base` in lists in a row.
-fn position_among(segments: &[Overloads], base: BaseType) -> Option<usize>
+pub(crate) fn position_among(segments: &[Overloads], base: BaseType) -> Option<usize>
     ensures { result ≡ spec.position_of base (flat segments.now) }
 {
     for segment in segments {
@@ -130,6 +130,16 @@ impl Meanings {
         Meanings {
             found: Found::One(entry),
             len: 1,
+        }
+    }
+
+    /// The lists of the entries, where there are not just one entry.
+    pub(crate) fn segments(&self) -> Option<&[Overloads]>
+        ensures { IfSome result (λ segments. flat segments.now ≡ self.now) }
+    {
+        match &self.found {
+            Found::One(_) => None,
+            Found::Literals(segments) => Some(segments.as_slice()),
         }
     }
 

@@ -1,9 +1,11 @@
 //! The declarations of a name in one region.
 
-ghost use Rattle.std.specs.Prelude.{◌≡◌, ◌++◌, ◌∷◌, ◌==◌, [], length, IfOk, OnOk, OnErr};
+ghost use Rattle.std.specs.Prelude.{◌≡◌, ◌++◌, ◌∷◌, ◌==◌, [], true, length, IfOk, OnOk, OnErr, MatchOption};
 ghost use Rattle.std.specs.List.{list_any};
+ghost use Rattle.vhdl_overloads.specs.Blocks.{Apart, Summary};
 ghost use Rattle.vhdl_overloads.specs.Literals as spec;
 
+use crate::blocks::{Block, Blocks};
 use crate::table::Table;
 use std::alloc::{AllocError, Global};
 use std::default::MadeWith;
@@ -107,6 +109,27 @@ impl Overloads {
         match &self.shared {
             Some(table) => table.as_ref().position(base),
             None => None,
+        }
+    }
+
+    /// The types of the declarations by blocks, if there are any.
+    pub(crate) fn blocks(&self) -> Option<&Blocks>
+        ensures { MatchOption result (self.now ≡ []) (λ blocks. Summary blocks.now self.now) }
+    {
+        match &self.shared {
+            Some(table) => Some(table.as_ref().blocks()),
+            None => None,
+        }
+    }
+
+    /// Whether no type of a block stands among the declarations. It tells only of some blocks that none does.
+    #[tactic(auto, unfolding(crate::specs::Literals::position_of))]
+    pub(crate) fn are_apart(&self, block: Block) -> bool
+        ensures { result ≡ true → Apart block self.now }
+    {
+        match self.blocks() {
+            Some(blocks) => blocks.are_apart(block),
+            None => true,
         }
     }
 

@@ -3,11 +3,13 @@
 ghost use Rattle.std.specs.Prelude.{◌≡◌, ◌++◌, ◌∷◌, ℕ, [], IfOk, OnOk, OnErr};
 ghost use Rattle.std.specs.BTreeMap.{get};
 ghost use Rattle.std.specs.Ordering.{nat_cmp};
+ghost use Rattle.vhdl_overloads.specs.Blocks.{Summary};
 ghost use Rattle.vhdl_overloads.specs.Literals as spec;
 ghost use Rattle.vhdl_overloads.specs.Tables.{Notes, Keeps};
 ghost use Rattle.vhdl_types.specs.declared.base_type.BaseType.TheVariants as base;
 ghost use Rattle.vhdl_types.specs.declared.entry.Entry.TheVariants as entry;
 
+use crate::blocks::Blocks;
 use crate::literals::{own_number, position_among};
 use std::alloc::{AllocError, Global};
 use std::collections::BTreeMap;
@@ -40,18 +42,19 @@ pub(crate) struct Table {
     visible: Vec<Entry>,
     // The first declaration that is no literal.
     other: Option<Entry>,
+    blocks: Blocks,
 }
 
 impl Model for Table {
     ghost use Rattle.std.specs.Prelude.{List};
     ghost use Rattle.vhdl_types.specs.declared.entry.Entry.{Entry};
-    ghost use Rattle.vhdl_overloads.specs.Tables.{Indexed};
+    ghost use Rattle.vhdl_overloads.specs.Blocks.{Tells};
 
     ghost Value = { List Entry };
 
     ghost view = { λ t. t.entries.items };
 
-    ghost invariant = { λ t. Indexed t.own t.visible.items t.other t.entries.items };
+    ghost invariant = { λ t. Tells t.own t.visible.items t.other t.blocks t.entries.items };
 }
 
 impl Table {
@@ -65,6 +68,7 @@ impl Table {
             own: BTreeMap::new(alloc),
             visible: Vec::new(alloc),
             other: None,
+            blocks: Blocks::new(alloc),
         }
     }
 
@@ -73,6 +77,13 @@ impl Table {
         ensures { result.now ≡ self.now }
     {
         self.entries.as_slice()
+    }
+
+    /// The types of the declarations by blocks.
+    pub(crate) fn blocks(&self) -> &Blocks
+        ensures { Summary result.now self.now }
+    {
+        &self.blocks
     }
 
     /// The first declaration that is no literal.
@@ -123,9 +134,13 @@ impl Table {
         ensures ok { OnOk result (self.new ≡ self.old ++ entry ∷ []) }
         ensures err { OnErr result (self.new ≡ self.old) }
     {
+        self.blocks.prepare(self.entries.len(), entry)?;
         self.entries.push(entry)?;
         match Table::note(&mut self.own, &mut self.visible, &mut self.other, entry) {
-            Ok(()) => Ok(()),
+            Ok(()) => {
+                self.blocks.add(entry);
+                Ok(())
+            }
             Err(error) => {
                 self.entries.pop();
                 Err(error)

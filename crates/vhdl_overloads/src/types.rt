@@ -1,14 +1,17 @@
 //! The types that an expression can have.
 
-ghost use Rattle.std.specs.Prelude.{◌≡◌, ◌∷◌, [], length, slice_get, IfOk};
+ghost use Rattle.std.specs.Prelude.{◌≡◌, ◌∷◌, [], length, slice_get, IfOk, IfSome};
 ghost use Rattle.std.specs.List.{list_any};
 ghost use Rattle.vhdl_types.specs.Types.{same};
-ghost use Rattle.vhdl_overloads.specs.Finds.{BeginsWith};
+ghost use Rattle.vhdl_overloads.specs.Finds.{flat, BeginsWith};
 ghost use Rattle.vhdl_overloads.specs.Kinds.{type_of, WhetherLiterals};
 ghost use Rattle.vhdl_overloads.specs.Literals.{literal_types};
+ghost use Rattle.vhdl_overloads.specs.Sharing.{if_passes, is_shared, shared};
 
 use crate::literals::literal_type;
 use crate::meanings::Meanings;
+use crate::overloads::Overloads;
+use crate::shared::{Shared, more_if, shared_literals};
 use sqlite_items::Items;
 use std::alloc::{AllocError, Global};
 use std::marker::Model;
@@ -66,6 +69,28 @@ fn type_of(entry: Option<Entry>) -> Option<BaseType>
         Some(entry) => literal_type(entry),
         None => None,
     }
+}
+
+/// One type more, where there is one, it is discrete and stands among others.
+#[tactic(auto, unfolding(crate::specs::Sharing::if_passes, crate::specs::Sharing::is_shared))]
+fn with_type(shared: Shared, base: Option<BaseType>, others: &Types) -> Shared
+    ensures { result ≡ if_passes (is_shared others.now) shared base }
+{
+    match base {
+        Some(base) => more_if(base.is_discrete() && others.has(base), shared, base),
+        None => shared,
+    }
+}
+
+/// The discrete types that stand in both, where each is looked at.
+fn one_by_one(types: &Types, others: &Types) -> Shared
+    ensures { result ≡ shared types.now others.now }
+{
+    let mut now = Shared::Nothing;
+    for place in 0..types.len() {
+        now = with_type(now, types.get(place), others);
+    }
+    now
 }
 
 impl Types {
@@ -158,6 +183,27 @@ impl Types {
             Kept::None => None,
             Kept::Listed(types) => types.get(place).copied(),
             Kept::Literals(entries) => type_of(entries.get(place)),
+        }
+    }
+
+    /// The lists of literals whose types they are, if they are types of literals.
+    fn literals(&self) -> Option<&[Overloads]>
+        ensures { IfSome result (λ segments. literal_types (flat segments.now) ≡ self.now) }
+    {
+        match &self.kept {
+            Kept::Literals(entries) => entries.segments(),
+            _ => None,
+        }
+    }
+
+    /// The discrete types that stand both here and among others (5.3.2.1). Types of literals are compared by
+    /// blocks of 128, each of which takes the logarithm of how many blocks the others have.
+    pub fn shared(&self, others: &Types) -> Shared
+        ensures { result ≡ shared self.now others.now }
+    {
+        match (self.literals(), others.literals()) {
+            (Some(own), Some(others)) => shared_literals(own, others),
+            _ => one_by_one(self, others),
         }
     }
 }

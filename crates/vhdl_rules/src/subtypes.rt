@@ -1,6 +1,6 @@
 //! Subtype indications, and the ranges of loops (5.2.1, 5.3.2, 6.3).
 
-ghost use Rattle.std.specs.Prelude.{◌≡◌, ◌++◌, IfOk, is_some, not};
+ghost use Rattle.std.specs.Prelude.{◌≡◌, ◌++◌, IfOk};
 ghost use Rattle.vhdl_operators.specs.Places.{common_discrete};
 ghost use Rattle.vhdl_typing.specs.Faults as faults_spec;
 ghost use Rattle.vhdl_typing.specs.Ranges as ranges_spec;
@@ -324,20 +324,19 @@ pub fn loop_type(bounds: &BoundsTold) -> Option<BaseType>
     }
 }
 
-/// Whether the bounds of a loop's range have no discrete type in common, or several.
-fn is_uncommon(left: &Told, right: &Told) -> bool
-    ensures { result ≡ not (is_some (common_discrete left.now.types right.now.types)) }
-{
-    common_discrete(&left.types, &right.types).is_none()
-}
-
-/// The faults of the two bounds of a loop's range.
+/// The faults of the two bounds of a loop's range, whose one discrete type in common is `base`.
 #[tactic(auto, unfolding(crate::specs::Subtypes::uncommon))]
-fn loop_bounds(alloc: Global, left: Told, right: Told) -> Result<Items<Fault>, AllocError>
+fn loop_bounds(
+    alloc: Global,
+    left: Told,
+    right: Told,
+    base: Option<BaseType>,
+) -> Result<Items<Fault>, AllocError>
+    requires { base ≡ common_discrete left.types right.types }
     ensures { IfOk result (λ faults. faults ≡ (left.names ++ right.names) ++
         ((faults_spec.typing_of left ++ faults_spec.typing_of right) ++ spec.uncommon left right)) }
 {
-    let (broken, place) = (is_uncommon(&left, &right), left.place);
+    let (broken, place) = (base.is_none(), left.place);
     let left = breaks_of(alloc, left)?;
     let Breaks { names, typing } = both(left, breaks_of(alloc, right)?)?;
     let uncommon = break_if(alloc, broken, names.as_slice(), place, Rule::Type)?;
@@ -345,12 +344,18 @@ fn loop_bounds(alloc: Global, left: Told, right: Told) -> Result<Items<Fault>, A
 }
 
 /// The faults of the range of a `for` loop: its bounds have exactly one discrete type in common (5.3.2.1, 10.10).
-#[tactic(auto, unfolding(crate::specs::Subtypes::loop_range))]
-pub fn loop_range(alloc: Global, bounds: BoundsTold) -> Result<Items<Fault>, AllocError>
+/// `base` is what `loop_type` gave for them.
+#[tactic(auto, unfolding(crate::specs::Subtypes::loop_range, crate::specs::Subtypes::loop_type))]
+pub fn loop_range(
+    alloc: Global,
+    bounds: BoundsTold,
+    base: Option<BaseType>,
+) -> Result<Items<Fault>, AllocError>
+    requires { base ≡ spec.loop_type bounds }
     ensures { IfOk result (λ faults. faults ≡ spec.loop_range bounds) }
 {
     match bounds {
-        BoundsTold::Range(left, right) => loop_bounds(alloc, left, right),
+        BoundsTold::Range(left, right) => loop_bounds(alloc, left, right, base),
         BoundsTold::Name(name) => append(name.names, name.typing),
     }
 }

@@ -58,6 +58,9 @@ OVERLOADED = each(MANY, lambda n: f"type t{n} is (x);")
 # Two literals of as many types, which share the last alone.
 IN_TURN = each(29000, lambda n: f"type t{n} is ({'xy'[n % 2]});") + "type t is (x,y);\n"
 IN_HALVES = each(29000, lambda n: f"type t{n} is ({'xy'[n // 14500]});") + "type t is (x,y);\n"
+HALF_IN_TURN = each(14500, lambda n: f"type t{n} is ({'xy'[n % 2]});") + "type t is (x,y);\n"
+# Names of which each two share a type of their own.
+PAIRS = [(one, other) for one in range(165) for other in range(one)]
 
 TEXTS = {
     "signals, each used twice": design(signals(MANY), assigned(MANY)),
@@ -82,6 +85,13 @@ TEXTS = {
     "ranges of such literals": design(OVERLOADED + "type t is (x,y);\n", loops(MANY // 2)),
     "ranges of two such literals": design(IN_TURN, loops(12900)),
     "ranges of two others": design(IN_HALVES, loops(12900)),
+    "such ranges, each in a process that has one more": design(
+        HALF_IN_TURN, each(7500, lambda n: process("type u is (x);", "for i in x to y loop null; end loop;"))
+    ),
+    "ranges of two of many literals": design(
+        "".join(f"type t{one}_{other} is (x{one},x{other});\n" for one, other in PAIRS),
+        process("", "".join(f"for i in x{one} to x{other} loop null; end loop;\n" for one, other in PAIRS)),
+    ),
     "choices": design(
         "",
         process("variable n:integer;\n", "case n is\n" + each(58000, lambda n: f"when {n}=>null;") + "when others=>null; end case;\n"),

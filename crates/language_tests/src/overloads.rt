@@ -3,8 +3,9 @@
 use crate::lists::{denoted, listed, meanings};
 use std::alloc::{AllocError, Global};
 use std::test::Fail;
-use vhdl_operators::common_discrete;
+use vhdl_operators::{common_discrete, one_shared};
 use vhdl_overloads::{Meanings, Overloads, Types, met};
+use vhdl_scope::{Region, Regions};
 use vhdl_types::{BaseType, Class, Entry, Object};
 
 const SIGNAL: Entry = Entry::Object(Object {
@@ -142,5 +143,78 @@ fn bounds_share_types_of_all_regions(rt: HostRuntime) -> Result<(), Fail> {
     let bit = Types::of_literals(meanings(rt.alloc(), &[Entry::Literal(BaseType::Bit, 0)])?);
     assert!(rt; common_discrete(&left, &bit) == Some(BaseType::Bit));
     assert!(rt; common_discrete(&bit, &left) == Some(BaseType::Bit));
+    Ok(())
+}
+
+// Declares literals of these types by a name in the innermost region.
+fn declare(
+    regions: &mut Regions,
+    alloc: Global,
+    name: &str,
+    numbers: &[usize],
+) -> Result<(), AllocError> {
+    for number in numbers {
+        regions.add(String::from_str(alloc, name)?, literal(*number, 0))?;
+    }
+    Ok(())
+}
+
+// The one type that the names `a` and `b` share, before it is kept and behind that, in both orders.
+fn shared_by_names(
+    regions: &mut Regions,
+    alloc: Global,
+) -> Result<[Option<BaseType>; 4], AllocError> {
+    let before = one_shared(regions.shared(alloc, "a", "b")?);
+    let turned = one_shared(regions.shared(alloc, "b", "a")?);
+    regions.keep_shared(alloc, "a", "b")?;
+    regions.keep_shared(alloc, "b", "a")?;
+    let kept = one_shared(regions.shared(alloc, "a", "b")?);
+    Ok([
+        before,
+        turned,
+        kept,
+        one_shared(regions.shared(alloc, "b", "a")?),
+    ])
+}
+
+// All four are this type.
+fn are(found: [Option<BaseType>; 4], want: Option<usize>) -> bool {
+    found.iter().all(|base| *base == want.map(BaseType::Own))
+}
+
+#[test]
+fn kept_types_follow_the_declarations(rt: HostRuntime) -> Result<(), Fail> {
+    let alloc = rt.alloc();
+    let mut regions = Regions::new(alloc, Region::new(alloc));
+    regions.open(alloc, Region::new(alloc))?;
+    assert!(rt; are(shared_by_names(&mut regions, alloc)?, None));
+    declare(&mut regions, alloc, "a", &[1, 2, 300])?;
+    assert!(rt; are(shared_by_names(&mut regions, alloc)?, None));
+    declare(&mut regions, alloc, "b", &[2, 3])?;
+    assert!(rt; are(shared_by_names(&mut regions, alloc)?, Some(2)));
+    // What is no literal changes nothing, and another literal shared makes two.
+    regions.add(String::from_str(alloc, "p")?, SIGNAL)?;
+    assert!(rt; are(shared_by_names(&mut regions, alloc)?, Some(2)));
+    regions.open(alloc, Region::new(alloc))?;
+    assert!(rt; are(shared_by_names(&mut regions, alloc)?, Some(2)));
+    declare(&mut regions, alloc, "a", &[400])?;
+    assert!(rt; are(shared_by_names(&mut regions, alloc)?, Some(2)));
+    declare(&mut regions, alloc, "b", &[400])?;
+    assert!(rt; are(shared_by_names(&mut regions, alloc)?, None));
+    regions.close(alloc);
+    assert!(rt; are(shared_by_names(&mut regions, alloc)?, Some(2)));
+    // A parameter hides literals, and the literals of an inner region are seen alone behind a signal.
+    regions.open(alloc, Region::new(alloc))?;
+    regions.open_loop(String::from_str(alloc, "b")?, SIGNAL)?;
+    assert!(rt; are(shared_by_names(&mut regions, alloc)?, None));
+    regions.close_loop();
+    assert!(rt; are(shared_by_names(&mut regions, alloc)?, Some(2)));
+    regions.close(alloc);
+    regions.add(String::from_str(alloc, "a")?, SIGNAL)?;
+    assert!(rt; are(shared_by_names(&mut regions, alloc)?, None));
+    regions.open(alloc, Region::new(alloc))?;
+    declare(&mut regions, alloc, "a", &[3])?;
+    declare(&mut regions, alloc, "b", &[3])?;
+    assert!(rt; are(shared_by_names(&mut regions, alloc)?, Some(3)));
     Ok(())
 }

@@ -5,6 +5,8 @@ ghost use Rattle.std.specs.Option.{option_map};
 ghost use Rattle.vhdl_tree.specs.declared.statements.Scheme.TheVariants as scheme_of;
 ghost use Rattle.vhdl_checker.specs.After as after;
 ghost use Rattle.vhdl_checker.specs.Faults as spec;
+ghost use Rattle.vhdl_checker.specs.Telling as telling;
+ghost use Rattle.vhdl_rules.specs.Subtypes as rules;
 
 use crate::declaring::object_numbered;
 use crate::surroundings::{Label, Surroundings};
@@ -16,6 +18,7 @@ use vhdl_scope::word;
 use vhdl_tokens::Token;
 use vhdl_tree::{Bounds, Jump, Scheme};
 use vhdl_types::{BaseType, Class, Entry, Fault};
+use vhdl_typing::{BoundsTold, literal_bounds};
 
 #[tactic(auto, unfolding(crate::specs::After::parameter))]
 fn parameter(number: usize, base: Option<BaseType>) -> Entry
@@ -24,6 +27,27 @@ fn parameter(number: usize, base: Option<BaseType>) -> Entry
     match base {
         Some(base) => Entry::Object(object_numbered(number, Class::Parameter, base)),
         None => Entry::Object(object_numbered(number, Class::Parameter, BaseType::Integer)),
+    }
+}
+
+// The type of the parameter of a loop. What two bounds share that are enumeration literals is kept for other loops.
+fn loop_base(
+    around: &mut Surroundings,
+    alloc: Global,
+    text: &[u8],
+    bounds: &Bounds,
+    told: &BoundsTold,
+) -> Result<Option<BaseType>, AllocError>
+    requires { told.now ≡ telling.bounds_here text.now around.old bounds.now }
+    ensures kept { OnOk result (around.new ≡ around.old) }
+    ensures base { IfOk result (λ base. base ≡ rules.loop_type told.now) }
+{
+    match literal_bounds(alloc, text, around.regions(), bounds)? {
+        Some(names) => {
+            around.keep_shared(alloc, &names)?;
+            Ok(names.common(alloc, around.regions())?)
+        }
+        None => Ok(loop_type(told)),
     }
 }
 
@@ -40,7 +64,7 @@ fn begin_for(
     ensures faults { IfOk result (λ faults. faults ≡ spec.loop_faults text.now around.old (scheme_of.For token.now bounds.now)) }
 {
     let told = bounds_here(alloc, text, around, bounds)?;
-    let base = loop_type(&told);
+    let base = loop_base(around, alloc, text, bounds, &told)?;
     let entry = parameter(around.next_number(), base);
     let faults = loop_range(alloc, told, base)?;
     let name = word(alloc, text, token)?;

@@ -16,6 +16,7 @@ use std::marker::Model;
 use std::mem;
 use vhdl_scope::{Region, Regions, STANDARD_MARKS, standard};
 use vhdl_types::{BaseType, Class, Entry, Object};
+use vhdl_typing::LiteralBounds;
 
 /// The label of a loop, if it has one.
 #[derive(Debug, Drop)]
@@ -290,6 +291,17 @@ impl Surroundings {
             Some(subject) => *subject,
             None => None,
         }
+    }
+
+    /// Keeps the types that two bounds share.
+    pub(crate) fn keep_shared(
+        &mut self,
+        alloc: Global,
+        bounds: &LiteralBounds,
+    ) -> Result<(), AllocError>
+        ensures { self.new ≡ self.old }
+    {
+        bounds.keep(alloc, &mut self.regions)
     }
 
     // ---- declarations

@@ -20,7 +20,8 @@ use Rattle.vhdl_meaning.specs.declared.candidates.ChoiceCandidate.{ChoiceCandida
 use Rattle.vhdl_meaning.specs.declared.candidates.Denoted.{Denoted}
 use Rattle.vhdl_meaning.specs.declared.candidates.RangeCandidate.{RangeCandidate}
 use Rattle.vhdl_operators.specs.Places.{common_discrete, is_common_discrete, only, sole}
-use Rattle.vhdl_operators.proofs.Members.{has_filter, same_self}
+use Rattle.vhdl_overloads.proofs.Same.{same_self}
+use Rattle.vhdl_operators.proofs.Members.{has_filter}
 use Rattle.vhdl_operators.proofs.Sole.{sole_has}
 use Rattle.vhdl_operators.specs.Sets.{has}
 use Rattle.vhdl_resolving.specs.Statements.{choices_resolved, for_resolved, loop_over, scheme_resolved, subject_resolved, type_or_integer}

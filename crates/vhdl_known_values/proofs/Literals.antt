@@ -12,7 +12,7 @@ use Rattle.vhdl_meaning.specs.Literals.{bit_byte, bits_candidate, character_cand
 use Rattle.vhdl_meaning.specs.Names.{candidate_with}
 use Rattle.vhdl_meaning.specs.Settling.{literal_at}
 use Rattle.vhdl_operators.proofs.Given.{has_of_string}
-use Rattle.vhdl_operators.proofs.Members.{same_is}
+use Rattle.vhdl_overloads.proofs.Same.{same_is}
 use Rattle.vhdl_operators.specs.Literals.{is_bit, is_std_ulogic, of_bits, of_string, spells}
 use Rattle.vhdl_operators.specs.Sets.{has}
 use Rattle.vhdl_tokens.specs.Meaning.{integer_of, span}

@@ -6,7 +6,7 @@ use Rattle.std.specs.Prelude.{is_some}
 use Rattle.vhdl_known_values.specs.Typed.{HasType, OperandType, all_of, are_same, attribute_of, choice_step, given_by, has_type, is_integer_choice, is_item_of, is_of, item_step, link_step, named_after, named_with, only_if, operands_fit, part_step, reference_step, sides_fit, type_named, type_of, type_of_link, type_with, value_step}
 use Rattle.vhdl_meaning.specs.Attributes.{attribute_type}
 use Rattle.vhdl_meaning.specs.Names.{reference}
-use Rattle.vhdl_operators.proofs.Members.{same_is, same_self}
+use Rattle.vhdl_overloads.proofs.Same.{same_is, same_self}
 use Rattle.vhdl_operators.specs.Literals.{spells}
 use Rattle.vhdl_operators.specs.Operators.{is_defined_on}
 use Rattle.vhdl_operators.specs.Sets.{has}

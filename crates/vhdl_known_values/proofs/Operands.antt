@@ -4,7 +4,7 @@ use Rattle.std.proofs.Math.Bool.{and-false}
 use Rattle.std.proofs.lemmas.Bool.{and_parts, not-false, or_cases, or_left}
 use Rattle.vhdl_meaning.specs.Settling.{element_or, first_or, operand_type, other_type}
 use Rattle.vhdl_operators.proofs.Given.{has_results}
-use Rattle.vhdl_operators.proofs.Members.{same_self}
+use Rattle.vhdl_overloads.proofs.Same.{same_self}
 use Rattle.vhdl_operators.specs.Literals.{elements_can_be, holds}
 use Rattle.vhdl_operators.specs.Operators.{both, can_be, concatenation, integers, is_logical, is_numeric, joined, joins, logical, product, quotient, results, sum}
 use Rattle.vhdl_operators.specs.Places.{only}

@@ -4,7 +4,7 @@ use Rattle.std.proofs.Math.Bool.{and-false}
 use Rattle.std.proofs.lemmas.Bool.{and_parts, not-false, or_cases, or_left}
 use Rattle.vhdl_meaning.specs.Operators.{first_of, met, or_integer, related}
 use Rattle.vhdl_meaning.specs.Settling.{operand_type}
-use Rattle.vhdl_operators.proofs.Members.{same_self}
+use Rattle.vhdl_overloads.proofs.Same.{same_self}
 use Rattle.vhdl_operators.specs.Places.{only}
 use Rattle.vhdl_operators.specs.Relations.{compares, is_met, relates}
 use Rattle.vhdl_operators.specs.Sets.{has}

@@ -1,1 +1,2 @@
 pub mod LiteralsAt
+pub mod Literal_candidates

@@ -6,7 +6,7 @@ use Rattle.vhdl_types.specs.declared.base_type.BaseType.{BaseType}
 use Rattle.vhdl_types.specs.declared.entry.Entry.{Entry}
 use Rattle.vhdl_types.specs.declared.entry.Entry.TheVariants as entry
 use Rattle.vhdl_overloads.specs.Literals.{or_else, position_in, position_of}
-use Rattle.vhdl_operators.proofs.Members.{same_is}
+use Rattle.vhdl_overloads.proofs.Same.{same_is}
 use Rattle.vhdl_units.specs.declared.values.Value.{Value}
 use Rattle.vhdl_units.specs.declared.values.Value.TheVariants as value
 use Rattle.vhdl_meaning.specs.Settling.{literal_at}

@@ -1,60 +1,17 @@
 -- Which types a set has, and that none stands in it twice.
-use Rattle.std.proofs.Common.{◌≡◌, ℕ, ◌&&◌, ◌||◌, not, Bool, true, false, cond, List, [], ◌∷◌, refl, ap, sym, ◌∙◌}
-use Rattle.std.proofs.Math.Bool.{and-false}
-use Rattle.std.proofs.lemmas.Bool.{eqb-true, eq-eqb, and_parts, not-true}
+use Rattle.std.proofs.Common.{◌≡◌, ℕ, ◌&&◌, not, Bool, true, false, cond, List, [], ◌∷◌, refl, ap, sym, ◌∙◌}
+use Rattle.std.proofs.lemmas.Bool.{and_parts, not-true}
 use Rattle.std.specs.List.{filter}
 use Rattle.vhdl_types.specs.declared.base_type.BaseType.{BaseType}
 use Rattle.vhdl_types.specs.declared.base_type.BaseType.TheVariants as base
-use Rattle.vhdl_types.specs.Types.{same}
+use Rattle.vhdl_overloads.proofs.Same.{any_filter}
 use Rattle.vhdl_operators.specs.Sets.{has, is_set, predefined}
-
-pub same_self : (t : BaseType) → same t t ≡ true
-same_self base.Boolean = refl
-same_self base.Bit = refl
-same_self base.Character = refl
-same_self base.StdUlogic = refl
-same_self (base.Own n) = eq-eqb n n refl
-same_self base.Integer = refl
-same_self base.Time = refl
-same_self base.BitVector = refl
-same_self base.StdUlogicVector = refl
-same_self base.String = refl
-same_self base.IntegerVector = refl
-
-pub same_is : (a b : BaseType) → same a b ≡ true → a ≡ b
-same_is base.Boolean base.Boolean h = refl
-same_is base.Bit base.Bit h = refl
-same_is base.Character base.Character h = refl
-same_is base.StdUlogic base.StdUlogic h = refl
-same_is (base.Own n) (base.Own m) h = ap base.Own (eqb-true n m h)
-same_is base.Integer base.Integer h = refl
-same_is base.Time base.Time h = refl
-same_is base.BitVector base.BitVector h = refl
-same_is base.StdUlogicVector base.StdUlogicVector h = refl
-same_is base.String base.String h = refl
-same_is base.IntegerVector base.IntegerVector h = refl
-same_is _ _ h = absurd (cc)
 
 -- ---- what a test leaves of a set
 
-one_more : (q r s kept all : Bool) → kept ≡ (all && r) → (s ≡ true → q ≡ r) → cond q (s || kept) kept ≡ ((s || all) && r)
-one_more true true true kept all e eq = refl
-one_more false false true kept all e eq = e ∙ and-false all
-one_more true false true kept all e eq = absurd (let h : true ≡ false = eq refl in cc)
-one_more false true true kept all e eq = absurd (let h : false ≡ true = eq refl in cc)
-one_more true r false kept all e eq = e
-one_more false r false kept all e eq = e
-
-has_cond : (q : Bool) (x : BaseType) (types : List BaseType) (t : BaseType) → has (cond q (x ∷ types) types) t ≡ cond q (same t x || has types t) (has types t)
-unfolding has
-has_cond true x types t = refl
-has_cond false x types t = refl
-
 pub has_filter : (p : BaseType → Bool) (types : List BaseType) (t : BaseType) → has (filter p types) t ≡ (has types t && p t)
 unfolding has
-has_filter p [] t = refl
-has_filter p (x ∷ types) t = has_cond (p x) x (filter p types) t
-    ∙ one_more (p x) (p t) (same t x) (has (filter p types) t) (has types t) (has_filter p types t) (λ h. sym (ap p (same_is t x h)))
+has_filter p types t = any_filter p types t
 
 is_set_cond : (q : Bool) (x : BaseType) (types : List BaseType) → has types x ≡ false → is_set types ≡ true → is_set (cond q (x ∷ types) types) ≡ true
 unfolding is_set

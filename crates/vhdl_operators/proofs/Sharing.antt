@@ -11,7 +11,7 @@ use Rattle.vhdl_operators.specs.Sets.{has, is_set}
 use Rattle.vhdl_operators.specs.Places.{only, fits_alone}
 use Rattle.vhdl_operators.specs.Relations.{compares, is_met, relates}
 use Rattle.vhdl_operators.specs.Laws.{HasAlone, Shares}
-use Rattle.vhdl_operators.proofs.Members.{same_self, same_is}
+use Rattle.vhdl_overloads.proofs.Same.{same_self, same_is}
 
 -- ---- a place
 

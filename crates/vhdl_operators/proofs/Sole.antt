@@ -10,7 +10,8 @@ use Rattle.vhdl_overloads.specs.declared.shared.Shared.{Shared}
 use Rattle.vhdl_overloads.specs.declared.shared.Shared.TheVariants as met
 use Rattle.vhdl_overloads.specs.Sharing.{one_more, all_more, is_shared, shared}
 use Rattle.vhdl_operators.specs.Places.{sole, is_common_discrete, common_discrete}
-use Rattle.vhdl_operators.proofs.Members.{same_self, same_is, has_filter}
+use Rattle.vhdl_overloads.proofs.Same.{same_self, same_is}
+use Rattle.vhdl_operators.proofs.Members.{has_filter}
 
 -- ---- it is the one type that is shared
 

@@ -15,6 +15,6 @@ mod sets;
 
 pub use literals::{all_arrays, narrow, of_bits, of_string};
 pub use operators::{can_be, can_be_from, results, results_from};
-pub use places::{common_discrete, fits_alone, only};
+pub use places::{common_discrete, fits_alone, one_shared, only};
 pub use relations::{compares, relates};
 pub use sets::has;

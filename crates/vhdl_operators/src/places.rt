@@ -1,6 +1,8 @@
 //! What a place asks of the types that an expression there can have.
 
-ghost use Rattle.std.specs.Prelude.{◌≡◌};
+ghost use Rattle.std.specs.Prelude.{◌≡◌, List};
+ghost use Rattle.vhdl_overloads.specs.Sharing as sharing;
+ghost use Rattle.vhdl_types.specs.declared.base_type.BaseType.{BaseType};
 ghost use Rattle.vhdl_operators.specs.Places as spec;
 
 use crate::sets::has;
@@ -39,13 +41,20 @@ pub fn common_discrete(left: &Types, right: &Types) -> Option<BaseType>
     }
 }
 
-/// The one discrete type of a set that stands in `others`.
-fn common_among(types: &Types, others: &Types) -> Option<BaseType>
-    ensures { result ≡ spec.common_discrete types.now others.now }
+/// The discrete type that two sets share, where it is exactly one (5.3.2.1, 10.10).
+pub fn one_shared(shared: Shared) -> Option<BaseType>
+    ensures { (types others : List BaseType) → shared ≡ sharing.shared types others → result ≡ spec.common_discrete types others }
 {
-    match types.shared(others) {
+    match shared {
         Shared::Nothing => None,
         Shared::One(base) => Some(base),
         Shared::Several => None,
     }
+}
+
+/// The one discrete type of a set that stands in `others`.
+fn common_among(types: &Types, others: &Types) -> Option<BaseType>
+    ensures { result ≡ spec.common_discrete types.now others.now }
+{
+    one_shared(types.shared(others))
 }

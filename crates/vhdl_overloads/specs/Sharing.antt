@@ -1,7 +1,8 @@
 -- Which discrete types two expressions can both have.
-use Rattle.std.specs.Prelude.{Bool, ◌&&◌, Option, Some, None, List, [], ◌∷◌, filter, is_some, if◌then◌else◌}
+use Rattle.std.specs.Prelude.{ℕ, ◌≡◌, ◌<◌, Bool, ◌&&◌, Option, Some, None, List, [], ◌∷◌, filter, is_some, if◌then◌else◌}
 use Rattle.std.specs.List.{list_any}
 use Rattle.vhdl_types.specs.declared.base_type.BaseType.{BaseType}
+use Rattle.vhdl_types.specs.declared.base_type.BaseType.TheVariants as base
 use Rattle.vhdl_types.specs.declared.entry.Entry.{Entry}
 use Rattle.vhdl_types.specs.Types.{is_discrete, same}
 use Rattle.vhdl_overloads.specs.declared.blocks.Block.{Block}
@@ -9,6 +10,7 @@ use Rattle.vhdl_overloads.specs.declared.shared.Shared.{Shared}
 use Rattle.vhdl_overloads.specs.declared.shared.Shared.TheVariants as met
 use Rattle.vhdl_overloads.specs.Blocks.{Apart}
 use Rattle.vhdl_overloads.specs.Literals.{literal_type, position_of}
+use Rattle.vhdl_overloads.specs.Tables.{own_number}
 
 -- one type more is shared
 unfoldable pub one_more : Shared → BaseType → Shared
@@ -27,6 +29,27 @@ is_shared others t = is_discrete t && list_any (same t) others
 -- the discrete types that stand in both lists
 unfoldable pub shared : List BaseType → List BaseType → Shared
 shared types others = all_more met.Nothing (filter (is_shared others) types)
+
+-- the types that are shared by these and by those
+unfoldable pub together : Shared → Shared → Shared
+together met.Nothing s = s
+together (met.One t) met.Nothing = met.One t
+together (met.One t) (met.One u) = if same t u then met.One t else met.Several
+together (met.One t) met.Several = met.Several
+together met.Several s = met.Several
+
+-- the types of the literals that each of two names denotes
+pub record TypesOfTwo : Type 0 where
+  pub left : List BaseType
+  pub right : List BaseType
+
+-- each type of the design among some literals has a lower number than each among others
+abbrev pub Below : List Entry → List Entry → Type 0
+Below low high = (n m p q : ℕ) → position_of (base.Own n) low ≡ Some p → position_of (base.Own m) high ≡ Some q → n < m
+
+-- no type that is always visible has literals among both
+abbrev pub VisibleApart : List Entry → List Entry → Type 0
+VisibleApart entries others = (t : BaseType) → own_number t ≡ None → (p q : ℕ) → position_of t entries ≡ Some p → position_of t others ≡ Some q → ⊥
 
 -- ---- how they are found
 

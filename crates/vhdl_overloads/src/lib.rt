@@ -9,11 +9,13 @@ mod blocks;
 mod literals;
 mod meanings;
 mod overloads;
+mod pair;
 mod shared;
 mod table;
 mod types;
 
 pub use meanings::{Meanings, met};
 pub use overloads::Overloads;
+pub use pair::Pair;
 pub use shared::Shared;
 pub use types::Types;

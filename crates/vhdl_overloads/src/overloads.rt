@@ -4,6 +4,8 @@ ghost use Rattle.std.specs.Prelude.{◌≡◌, ◌++◌, ◌∷◌, ◌==◌, []
 ghost use Rattle.std.specs.List.{list_any};
 ghost use Rattle.vhdl_overloads.specs.Blocks.{Apart, Summary};
 ghost use Rattle.vhdl_overloads.specs.Literals as spec;
+ghost use Rattle.vhdl_overloads.specs.Sharing.{shared};
+ghost use Rattle.vhdl_overloads.specs.declared.shared.Shared.TheVariants as shared_is;
 
 use crate::blocks::{Block, Blocks};
 use crate::table::Table;
@@ -130,6 +132,16 @@ impl Overloads {
         match self.blocks() {
             Some(blocks) => blocks.are_apart(block),
             None => true,
+        }
+    }
+
+    /// Whether no type has literals in both. It tells only of some lists that none has.
+    pub(crate) fn is_apart_from(&self, others: &Overloads) -> bool
+        ensures { result ≡ true → shared (spec.literal_types self.now) (spec.literal_types others.now) ≡ shared_is.Nothing }
+    {
+        match (&self.shared, &others.shared) {
+            (Some(table), Some(others)) => table.as_ref().is_apart_from(others.as_ref()),
+            _ => true,
         }
     }
 

@@ -3,6 +3,7 @@
 ghost use Rattle.std.specs.Prelude.{◌≡◌, ◌≤◌, [], true, drop, length, if◌then◌else◌};
 ghost use Rattle.vhdl_overloads.specs.Blocks.{Apart, Inside, Summary};
 ghost use Rattle.vhdl_overloads.specs.Finds.{flat};
+ghost use Rattle.vhdl_overloads.specs.Literals.{literal_types};
 ghost use Rattle.vhdl_overloads.specs.Sharing as spec;
 ghost use Rattle.vhdl_overloads.specs.declared.shared.Shared.TheVariants as shared_is;
 
@@ -10,6 +11,7 @@ use crate::blocks::{Block, Blocks};
 use crate::literals::literal_type;
 use crate::meanings::position_among;
 use crate::overloads::Overloads;
+use std::slice;
 use vhdl_types::{BaseType, Entry};
 
 /// The discrete types that two expressions can both have (5.3.2.1).
@@ -21,6 +23,21 @@ pub enum Shared {
     One(BaseType),
     /// There are at least two.
     Several,
+}
+
+impl Shared {
+    /// The types that are shared by these or by those.
+    #[tactic(auto, unfolding(crate::specs::Sharing::together))]
+    pub fn together(self, others: Shared) -> Shared
+        ensures { result ≡ spec.together self others }
+    {
+        match (self, others) {
+            (Shared::Nothing, others) => others,
+            (shared, Shared::Nothing) => shared,
+            (Shared::One(base), Shared::One(other)) if base.is(other) => self,
+            _ => Shared::Several,
+        }
+    }
 }
 
 /// One type more.
@@ -161,4 +178,28 @@ pub(crate) fn shared_literals(own: &[Overloads], others: &[Overloads]) -> Shared
         shared = with_segment(others, shared, segment);
     }
     shared
+}
+
+// The same, of the literals of two names in a region each.
+fn shared_of(one: &Overloads, others: &Overloads) -> Shared
+    ensures { result ≡ spec.shared (literal_types one.now) (literal_types others.now) }
+{
+    shared_literals(slice::from_ref(one), slice::from_ref(others))
+}
+
+impl Overloads {
+    /// The discrete types of which literals stand both here and among others (5.3.2.1). It takes a lookup for each
+    /// block of 128 types of the one that has fewer, and the logarithm of how many there are where all types of one
+    /// were declared before those of the other.
+    pub fn shared(&self, others: &Overloads) -> Shared
+        ensures { result ≡ spec.shared (literal_types self.now) (literal_types others.now) }
+    {
+        if self.is_apart_from(others) {
+            Shared::Nothing
+        } else if others.entries().len() < self.entries().len() {
+            shared_of(others, self)
+        } else {
+            shared_of(self, others)
+        }
+    }
 }

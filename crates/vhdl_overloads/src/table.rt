@@ -1,10 +1,12 @@
 //! Declarations of one name, among which literals are looked up by their types.
 
-ghost use Rattle.std.specs.Prelude.{◌≡◌, ◌++◌, ◌∷◌, ℕ, [], IfOk, OnOk, OnErr};
+ghost use Rattle.std.specs.Prelude.{◌≡◌, ◌<◌, ◌++◌, ◌∷◌, ℕ, [], true, Some, IfOk, OnOk, OnErr};
 ghost use Rattle.std.specs.BTreeMap.{get};
 ghost use Rattle.std.specs.Ordering.{nat_cmp};
 ghost use Rattle.vhdl_overloads.specs.Blocks.{Summary};
 ghost use Rattle.vhdl_overloads.specs.Literals as spec;
+ghost use Rattle.vhdl_overloads.specs.Sharing.{shared, Below, VisibleApart};
+ghost use Rattle.vhdl_overloads.specs.declared.shared.Shared.TheVariants as shared_is;
 ghost use Rattle.vhdl_overloads.specs.Tables.{Notes, Keeps};
 ghost use Rattle.vhdl_types.specs.declared.base_type.BaseType.TheVariants as base;
 ghost use Rattle.vhdl_types.specs.declared.entry.Entry.TheVariants as entry;
@@ -30,6 +32,16 @@ fn note_own(
         own.insert(number, position)?;
     }
     Ok(())
+}
+
+// Whether all numbers of one table are lower than all of another. It says no where one of them is empty.
+fn are_below(low: &BTreeMap<usize, usize>, high: &BTreeMap<usize, usize>) -> bool
+    ensures { result ≡ true → (n m p q : ℕ) → get nat_cmp low.now n ≡ Some p → get nat_cmp high.now m ≡ Some q → n < m }
+{
+    match (low.last_key_value(), high.first_key_value()) {
+        (Some((last, _)), Some((first, _))) => *last < *first,
+        _ => false,
+    }
 }
 
 /// Declarations of one name, in their order.
@@ -101,6 +113,34 @@ impl Table {
             Some(number) => self.own.get(&number).copied(),
             None => position_among(base, self.visible.as_slice()),
         }
+    }
+
+    // Whether no type that is always visible has literals in both. It says so where one has no such literals.
+    fn is_visible_apart(&self, others: &Table) -> bool
+        ensures { result ≡ true → VisibleApart self.now others.now }
+    {
+        self.visible.as_slice().is_empty() || others.visible.as_slice().is_empty()
+    }
+
+    // Whether all types of the design in the one have lower numbers than those in the other.
+    fn is_below(&self, others: &Table) -> bool
+        ensures { result ≡ true → Below self.now others.now }
+    {
+        are_below(&self.own, &others.own)
+    }
+
+    /// Whether no type has literals in both, as all types of the one were declared before all of the other. It tells
+    /// only of some such tables, and takes the logarithm of how many types they have.
+    pub(crate) fn is_apart_from(&self, others: &Table) -> bool
+        ensures { result ≡ true → shared (spec.literal_types self.now) (spec.literal_types others.now) ≡ shared_is.Nothing }
+    {
+        if !self.is_visible_apart(others) {
+            return false;
+        }
+        if self.is_below(others) {
+            return true;
+        }
+        others.is_below(self)
     }
 
     // Adds what is looked up of a declaration that was added.

@@ -2,7 +2,9 @@
 
 ghost use Rattle.std.specs.Prelude.{◌≡◌, IfOk, map};
 ghost use Rattle.std.specs.Option.{option_copied, option_map};
+ghost use Rattle.vhdl_meaning.specs.Ranges as ranges;
 ghost use Rattle.vhdl_resolving.specs.Statements as spec;
+ghost use Rattle.vhdl_resolving.specs.Values as values;
 ghost use Rattle.vhdl_tokens.specs.Meaning.{span};
 ghost use Rattle.vhdl_tokens.specs.Values.{text_value};
 
@@ -16,10 +18,11 @@ use vhdl_rules::severity_named;
 use vhdl_scope::word;
 use vhdl_tokens::{Token, span, string};
 use vhdl_tree::{
-    Alternative, Assertion, Choice, ConcurrentAssignment, Delay, Element, Expr, Jump, Report,
-    Scheme, Sensitivity, SignalAssignment, VariableAssignment, Wait,
+    Alternative, Assertion, Bounds, Choice, ConcurrentAssignment, Delay, Element, Expr, Jump,
+    Report, Scheme, Sensitivity, SignalAssignment, VariableAssignment, Wait,
 };
 use vhdl_types::BaseType;
+use vhdl_typing::literal_bounds;
 use vhdl_units::{
     ChoiceValue, ResolvedAlternative, ResolvedAssertion, ResolvedAssignment, ResolvedBody,
     ResolvedConcurrentAssignment, ResolvedDelay, ResolvedElement, ResolvedJump, ResolvedReport,
@@ -461,17 +464,36 @@ fn loop_over(
     Ok(ResolvedScheme::For(parameter, base, bounds))
 }
 
+// The one discrete type that the bounds of a loop's range have in common. Where both are enumeration literals it was
+// kept when the loop was tested.
+fn loop_base(
+    alloc: Global,
+    text: &[u8],
+    around: &Surroundings,
+    bounds: &Bounds,
+    range: &RangeCandidate,
+) -> Result<Option<BaseType>, AllocError>
+    requires { range.now ≡ values.range_here text.now around.now bounds.now }
+    ensures { IfOk result (λ base. base ≡ ranges.common_type range.now) }
+{
+    match literal_bounds(alloc, text, around.regions(), bounds)? {
+        Some(names) => Ok(names.common(alloc, around.regions())?),
+        None => Ok(common_type(range)),
+    }
+}
+
 #[tactic(auto, unfolding(crate::specs::Statements::for_resolved))]
 fn for_resolved(
     alloc: Global,
     text: &[u8],
     around: &Surroundings,
     token: &Token,
-    range: RangeCandidate,
+    bounds: &Bounds,
 ) -> Result<ResolvedScheme, AllocError>
-    ensures { IfOk result (λ v. v ≡ spec.for_resolved text.now around.now token.now range) }
+    ensures { IfOk result (λ v. v ≡ spec.for_resolved text.now around.now token.now (values.range_here text.now around.now bounds.now)) }
 {
-    let base = type_or_integer(common_type(&range));
+    let range = range_here(alloc, text, around, bounds)?;
+    let base = type_or_integer(loop_base(alloc, text, around, bounds, &range)?);
     loop_over(alloc, text, around, token, base, range)
 }
 
@@ -491,10 +513,7 @@ pub fn scheme_resolved(
             let condition = value_at(alloc, text, around, BaseType::Boolean, condition)?;
             Ok(ResolvedScheme::While(condition))
         }
-        Scheme::For(token, bounds) => {
-            let range = range_here(alloc, text, around, bounds)?;
-            for_resolved(alloc, text, around, token, range)
-        }
+        Scheme::For(token, bounds) => for_resolved(alloc, text, around, token, bounds),
     }
 }
 

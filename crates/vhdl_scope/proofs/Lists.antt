@@ -24,7 +24,7 @@ seen_append name (x ∷ xs) ys found = ap (met (own name x)) (seen_append name x
 abbrev pub Alone : List Entry → Type 0
 Alone entries = (list_all is_literal entries ≡ true) ⊎ (length entries ≡ 1)
 
-overloaded_some : (x : Entry) (xs found : List Entry) → overloaded (x ∷ xs) found ≡ (x ∷ xs) ++ filter is_literal found
+pub overloaded_some : (x : Entry) (xs found : List Entry) → overloaded (x ∷ xs) found ≡ (x ∷ xs) ++ filter is_literal found
 overloaded_some x xs found = grind arith
 
 overloaded_alone : (entries found : List Entry) → list_all is_literal entries ≡ true → Alone found → Alone (overloaded entries found)

@@ -6,10 +6,12 @@ ghost use Rattle.vhdl_overloads.specs.Hiding.{met};
 ghost use Rattle.vhdl_overloads.specs.Literals.{is_other};
 ghost use Rattle.vhdl_scope.specs.Declarations.{own};
 ghost use Rattle.vhdl_scope.specs.Nesting.{whole};
+ghost use Rattle.vhdl_scope.specs.Pairs.{BothSeen};
 
+use crate::pairs::hidden;
 use crate::region::Region;
 use std::alloc::{AllocError, Global};
-use vhdl_overloads::{Meanings, Overloads, met};
+use vhdl_overloads::{Meanings, Overloads, Pair, met};
 use vhdl_types::Entry;
 
 // The last of some entries, or else what was the last before them.
@@ -71,5 +73,46 @@ impl Further {
         ensures { IfOk result (λ seen. seen ≡ met (own name.now (whole self.now)) found) }
     {
         met(alloc, self.base.find(name), self.more.find(name), found)
+    }
+
+    /// Two names in the region, where they are seen so around it.
+    pub(crate) fn pair(
+        &self,
+        alloc: Global,
+        left: &str,
+        right: &str,
+        around: Pair,
+    ) -> Result<Pair, AllocError>
+        ensures { IfOk result (λ pair. BothSeen left.now right.now (whole self.now ∷ []) around pair) }
+    {
+        let more = around.within(
+            self.more.find(left),
+            self.more.find(right),
+            self.more.shared(left, right),
+        )?;
+        let all = more.within(
+            self.base.find(left),
+            self.base.find(right),
+            self.base.shared(left, right),
+        )?;
+        Ok(hidden(
+            alloc,
+            all,
+            self.declares_other(left),
+            self.declares_other(right),
+        ))
+    }
+
+    /// Keeps the types that two names share among the declarations of the entity and among those behind them.
+    pub(crate) fn keep_shared(
+        &mut self,
+        alloc: Global,
+        left: &str,
+        right: &str,
+    ) -> Result<(), AllocError>
+        ensures { self.new ≡ self.old }
+    {
+        self.base.keep_shared(alloc, left, right)?;
+        self.more.keep_shared(alloc, left, right)
     }
 }

@@ -4,6 +4,7 @@
 
 mod further;
 mod hiding;
+mod pairs;
 mod predefined;
 mod region;
 mod regions;

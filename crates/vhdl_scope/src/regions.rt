@@ -5,15 +5,19 @@ ghost use Rattle.std.specs.List.{list_any, last_or};
 ghost use Rattle.vhdl_overloads.specs.Hiding.{met};
 ghost use Rattle.vhdl_overloads.specs.Literals.{is_other};
 ghost use Rattle.vhdl_scope.specs.Declarations.{own};
+ghost use Rattle.vhdl_overloads.specs.Literals.{literal_types};
+ghost use Rattle.vhdl_overloads.specs.Sharing as sharing;
 ghost use Rattle.vhdl_scope.specs.Hiding.{seen};
+ghost use Rattle.vhdl_scope.specs.Pairs.{BothSeen};
 ghost use Rattle.vhdl_scope.specs.Nesting.{OpenRegion, Nested, beginning, outermost, opened, closed, declared_in, declared, loop_opened_in, loop_opened, loop_closed_in, loop_closed, regions_in, whole, meanings, declares_other};
 
 use crate::further::Further;
+use crate::pairs::pair_in_loop;
 use crate::region::{Declared, Region};
 use std::alloc::{AllocError, Global};
 use std::marker::Model;
 use std::mem;
-use vhdl_overloads::{Meanings, Overloads, met};
+use vhdl_overloads::{Meanings, Overloads, Pair, Shared, met};
 use vhdl_types::Entry;
 
 // What a name denotes in a loop's region.
@@ -108,6 +112,23 @@ impl Open {
             all = seen_in_loop(alloc, parameter, name, all)?;
         }
         Ok(all)
+    }
+
+    // Two names in the region and its loops, where they are seen so around it.
+    fn pair(&self, alloc: Global, left: &str, right: &str, around: Pair) -> Result<Pair, AllocError>
+        ensures { IfOk result (λ pair. BothSeen left.now right.now (regions_in self.now) around pair) }
+    {
+        let mut all = self.region.pair(alloc, left, right, around)?;
+        for parameter in &self.loops {
+            all = pair_in_loop(alloc, parameter, left, right, all)?;
+        }
+        Ok(all)
+    }
+
+    fn keep_shared(&mut self, alloc: Global, left: &str, right: &str) -> Result<(), AllocError>
+        ensures { self.new ≡ self.old }
+    {
+        self.region.keep_shared(alloc, left, right)
     }
 }
 
@@ -220,5 +241,29 @@ impl Regions {
             found = region.seen(alloc, name, found)?;
         }
         self.inner.seen(alloc, name, found)
+    }
+
+    /// The discrete types of which two names denote literals (5.3.2.1). Where `keep_shared` was called for them it
+    /// takes a lookup in each region and, where both have literals in several regions, the logarithm of how many.
+    pub fn shared(&self, alloc: Global, left: &str, right: &str) -> Result<Shared, AllocError>
+        ensures { IfOk result (λ shared. shared ≡ sharing.shared (literal_types (meanings self.now left.now)) (literal_types (meanings self.now right.now))) }
+    {
+        let mut pair = Pair::new(alloc);
+        for region in &self.outer {
+            pair = region.pair(alloc, left, right, pair)?;
+        }
+        let all = self.inner.pair(alloc, left, right, pair)?;
+        Ok(all.shared())
+    }
+
+    /// Keeps the types that two names share in the innermost region that is no loop's and in the one around it, until
+    /// a literal is declared there.
+    pub fn keep_shared(&mut self, alloc: Global, left: &str, right: &str) -> Result<(), AllocError>
+        ensures { self.new ≡ self.old }
+    {
+        if let Some(around) = self.outer.last_mut() {
+            around.keep_shared(alloc, left, right)?;
+        }
+        self.inner.keep_shared(alloc, left, right)
     }
 }

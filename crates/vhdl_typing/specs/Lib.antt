@@ -6,3 +6,4 @@ pub mod Expressions
 pub mod Trees
 pub mod Ranges
 pub mod Scope
+pub mod Named

@@ -17,9 +17,9 @@ use Rattle.vhdl_types.specs.declared.entry.Entry.TheVariants as entry
 use Rattle.vhdl_types.specs.Entries.{is_literal}
 use Rattle.vhdl_overloads.specs.Literals.{literal_types}
 use Rattle.vhdl_scope.specs.Nesting.{Nested, meanings}
-use Rattle.vhdl_typing.specs.Named.{is_character, token_in, sole_token, IsLiteral}
+use Rattle.vhdl_typing.specs.Named.{is_character, token_in, sole_token}
 use Rattle.vhdl_typing.specs.Scope.{look}
-use Rattle.vhdl_typing.proofs.Literal_types.{chosen, nothing_follows}
+use Rattle.vhdl_typing.proofs.Literal_types.{IsLiteral, chosen, nothing_follows}
 use Rattle.vhdl_meaning.specs.Literals.{character_candidate, spelled, spelled_as}
 use Rattle.vhdl_meaning.specs.Names.{begun, candidate_of, candidate_with, denoted_by, extended_by}
 use Rattle.vhdl_meaning.specs.Trees.{candidate, choice_step, denoted, expr_step, item_step, link_step, name_step, part_candidate, part_step}

@@ -7,6 +7,8 @@ use Rattle.vhdl_tokens.specs.declared.token.Kind.{Kind}
 use Rattle.vhdl_tokens.specs.declared.token.Kind.TheVariants as kind
 use Rattle.vhdl_tokens.specs.declared.token.Token.{Token}
 use Rattle.vhdl_tokens.specs.Meaning.{span}
+use Rattle.vhdl_tree.specs.declared.declarations.Bounds.{Bounds}
+use Rattle.vhdl_tree.specs.declared.declarations.Bounds.TheVariants as bounds
 use Rattle.vhdl_tree.specs.declared.expressions.Choice.{Choice}
 use Rattle.vhdl_tree.specs.declared.expressions.Expr.{Expr, out-Expr}
 use Rattle.vhdl_tree.specs.declared.expressions.Item.{Item}
@@ -18,9 +20,10 @@ use Rattle.vhdl_types.specs.declared.entry.Entry.{Entry}
 use Rattle.vhdl_types.specs.declared.entry.Entry.TheVariants as entry
 use Rattle.vhdl_types.specs.Entries.{is_literal}
 use Rattle.vhdl_overloads.specs.Literals.{literal_types}
+use Rattle.vhdl_scope.specs.Names.{word_in}
 use Rattle.vhdl_scope.specs.Nesting.{Nested, meanings}
 use Rattle.vhdl_typing.specs.Literals.{literal_told, spelled_told, spelled_types}
-use Rattle.vhdl_typing.specs.Named.{is_character, token_in, sole_token, IsLiteral}
+use Rattle.vhdl_typing.specs.Named.{are_literals, both, denoted_by, is_character, literal_name, literal_names, token_in, sole_token}
 use Rattle.vhdl_typing.specs.Names.{begun, declared, denoted, extended_by, finished, name_told, told_as, undeclared, value_as, value_of}
 use Rattle.vhdl_typing.specs.Scope.{look}
 use Rattle.vhdl_typing.specs.Trees.{choice_step, expr_step, item_step, link_step, name_step, part_step, told, told_name, told_part}
@@ -42,6 +45,56 @@ chosen false x y h = absurd cc
 pub nothing_follows : {X Y : Type 0} (f : X → Y) (xs : List X) → (length xs == 0) ≡ true → map f xs ≡ []
 nothing_follows f [] h = refl
 nothing_follows f (x ∷ xs) h = absurd (omega (arith, eqb-true (length (x ∷ xs)) 0 h))
+
+-- ---- the name
+
+-- an expression is a name that denotes enumeration literals alone
+pub record IsLiteral (text : List ℕ) (regions : Nested) (e : Expr) (name : List ℕ) : Type 0 where
+  pub token : Token
+  pub token_is : sole_token e ≡ Some token
+  pub name_is : name ≡ word_in text token
+  pub literals : list_all is_literal (meanings regions name) ≡ true
+
+all_literals : (entries : List Entry) → are_literals entries ≡ true → list_all is_literal entries ≡ true
+unfolding are_literals
+all_literals [] h = absurd cc
+all_literals (e ∷ entries) h = h
+
+denoted_is : (text : List ℕ) (regions : Nested) (e : Expr) (token : Option Token) (name : List ℕ) → sole_token e ≡ token → denoted_by text regions token ≡ Some name → IsLiteral text regions e name
+unfolding denoted_by
+denoted_is text regions e None name is h = absurd cc
+denoted_is text regions e (Some token) name is h =
+    let parts = chosen (are_literals (meanings regions (word_in text token))) (word_in text token) name h in
+    record {
+      token = token;
+      token_is = is;
+      name_is = sym parts.1;
+      literals = all_literals (meanings regions name) (subst (λ n. are_literals (meanings regions n) ≡ true) parts.1 parts.0);
+    }
+
+literal_is : (text : List ℕ) (regions : Nested) (e : Expr) (name : List ℕ) → literal_name text regions e ≡ Some name → IsLiteral text regions e name
+unfolding literal_name
+literal_is text regions e name h = denoted_is text regions e (sole_token e) name refl h
+
+both_are : (one other : Option (List ℕ)) (left right : List ℕ) → both one other ≡ Some (left, right) → (one ≡ Some left) × (other ≡ Some right)
+unfolding both
+both_are (Some x) (Some y) left right h =
+    let pair : ◌≡◌ {A = List ℕ × List ℕ} (x, y) (left, right) = cc in
+    (ap (λ (p : List ℕ × List ℕ). Some p.0) pair, ap (λ (p : List ℕ × List ℕ). Some p.1) pair)
+both_are None _ left right h = absurd cc
+both_are (Some x) None left right h = absurd cc
+
+-- both bounds of a range are
+abbrev pub AreLiterals : List ℕ → Nested → Bounds → List ℕ → List ℕ → Type 0
+AreLiterals text regions (bounds.Range low direction high) left right = IsLiteral text regions low left × IsLiteral text regions high right
+AreLiterals text regions (bounds.Name n) left right = ⊥
+
+pub bounds_are_literals : (text : List ℕ) (regions : Nested) (b : Bounds) (left right : List ℕ) → literal_names text regions b ≡ Some (left, right) → AreLiterals text regions b left right
+unfolding literal_names
+bounds_are_literals text regions (bounds.Range low direction high) left right h =
+    let parts = both_are (literal_name text regions low) (literal_name text regions high) left right h in
+    (literal_is text regions low left parts.0, literal_is text regions high right parts.1)
+bounds_are_literals text regions (bounds.Name n) left right h = absurd cc
 
 -- ---- its types
 

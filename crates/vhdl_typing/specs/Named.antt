@@ -1,5 +1,5 @@
 -- Expressions that are an enumeration literal and nothing else (IEEE Std 1076-2008, clauses 5.2.2 and 8.1).
-use Rattle.std.specs.Prelude.{◌≡◌, ◌==◌, ℕ, Bool, true, false, Option, Some, None, List, length, if◌then◌else◌}
+use Rattle.std.specs.Prelude.{◌==◌, ℕ, Bool, true, false, Option, Some, None, List, [], length, string_bytes, if◌then◌else◌}
 use Rattle.std.specs.List.{list_all}
 use Rattle.vhdl_scope.specs.Names.{word_in}
 use Rattle.vhdl_scope.specs.Nesting.{Nested, meanings}
@@ -17,6 +17,8 @@ use Rattle.vhdl_tree.specs.declared.expressions.Part.{Part}
 use Rattle.vhdl_types.specs.declared.base_type.BaseType.{BaseType}
 use Rattle.vhdl_types.specs.Entries.{is_literal}
 use Rattle.vhdl_overloads.specs.Literals.{literal_types}
+use Rattle.vhdl_types.specs.declared.entry.Entry.{Entry}
+use Rattle.vhdl_typing.specs.declared.named.LiteralBounds.{LiteralBounds}
 use Rattle.vhdl_tree.specs.declared.expressions.Choice.TheOpen.{Expr-F}  -- keep
 use Rattle.vhdl_tree.specs.declared.expressions.Expr.{out-Expr}  -- keep
 use Rattle.vhdl_tree.specs.declared.expressions.Name.{out-Name}  -- keep
@@ -34,17 +36,30 @@ token_in _ = None
 unfoldable pub sole_token : Expr → Option Token
 sole_token e = token_in (out-Expr e)
 
--- an expression is a name that denotes enumeration literals alone
-pub record IsLiteral (text : List ℕ) (regions : Nested) (e : Expr) (name : List ℕ) : Type 0 where
-  pub token : Token
-  pub token_is : sole_token e ≡ Some token
-  pub name_is : name ≡ word_in text token
-  pub literals : list_all is_literal (meanings regions name) ≡ true
+-- what a name denotes are enumeration literals alone, and there are some
+unfoldable pub are_literals : List Entry → Bool
+are_literals [] = false
+are_literals entries = list_all is_literal entries
 
--- both bounds of a range are
-abbrev pub AreLiterals : List ℕ → Nested → Bounds → List ℕ → List ℕ → Type 0
-AreLiterals text regions (bounds.Range low direction high) left right = IsLiteral text regions low left × IsLiteral text regions high right
-AreLiterals text regions (bounds.Name n) left right = ⊥
+unfoldable pub denoted_by : List ℕ → Nested → Option Token → Option (List ℕ)
+denoted_by text regions None = None
+denoted_by text regions (Some token) = if are_literals (meanings regions (word_in text token)) then Some (word_in text token) else None
+
+-- the name of the enumeration literals that a whole expression is
+unfoldable pub literal_name : List ℕ → Nested → Expr → Option (List ℕ)
+literal_name text regions e = denoted_by text regions (sole_token e)
+
+unfoldable pub both : Option (List ℕ) → Option (List ℕ) → Option (List ℕ × List ℕ)
+both (Some left) (Some right) = Some (left, right)
+both _ _ = None
+
+-- the names of two bounds, where both are enumeration literals and nothing else
+unfoldable pub literal_names : List ℕ → Nested → Bounds → Option (List ℕ × List ℕ)
+literal_names text regions (bounds.Range low direction high) = both (literal_name text regions low) (literal_name text regions high)
+literal_names text regions (bounds.Name n) = None
+
+abbrev pub names_of : LiteralBounds → List ℕ × List ℕ
+names_of names = (string_bytes names.left, string_bytes names.right)
 
 -- the types of the literals that a name denotes
 abbrev pub types_of : Nested → List ℕ → List BaseType

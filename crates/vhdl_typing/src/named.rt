@@ -1,8 +1,7 @@
 //! Expressions that are an enumeration literal and nothing else.
 
-ghost use Rattle.std.specs.Prelude.{◌≡◌, true, IfOk, IfSome, string_bytes};
-ghost use Rattle.std.specs.List.{list_all};
-ghost use Rattle.vhdl_types.specs.Entries.{is_literal};
+ghost use Rattle.std.specs.Prelude.{◌≡◌, IfOk, string_bytes};
+ghost use Rattle.std.specs.Option.{option_map};
 ghost use Rattle.vhdl_operators.specs.Places.{common_discrete};
 ghost use Rattle.vhdl_typing.specs.Named as spec;
 
@@ -36,9 +35,10 @@ fn sole_token(expr: &Expr) -> Option<Token>
     }
 }
 
-// Whether a name denotes enumeration literals alone. It says no where the name isn't declared.
+// Whether a name denotes enumeration literals alone. It doesn't where the name isn't declared.
+#[tactic(auto, unfolding(crate::specs::Named::are_literals))]
 fn are_literals(entries: &Meanings) -> bool
-    ensures { result ≡ true → list_all is_literal entries.now ≡ true }
+    ensures { result ≡ spec.are_literals entries.now }
 {
     match entries.get(0) {
         Some(entry) => entry.is_literal(),
@@ -47,13 +47,14 @@ fn are_literals(entries: &Meanings) -> bool
 }
 
 // The name of the enumeration literals that a whole expression is.
+#[tactic(auto, unfolding(crate::specs::Named::literal_name, crate::specs::Named::denoted_by))]
 fn literal_name(
     alloc: Global,
     text: &[u8],
     regions: &Regions,
     expr: &Expr,
 ) -> Result<Option<String>, AllocError>
-    ensures { IfOk result (λ name. IfSome name (λ name. spec.IsLiteral text.now regions.now expr.now (string_bytes name))) }
+    ensures { IfOk result (λ name. option_map string_bytes name ≡ spec.literal_name text.now regions.now expr.now) }
 {
     let Some(token) = sole_token(expr) else {
         return Ok(None);
@@ -68,6 +69,7 @@ fn literal_name(
 }
 
 // The names of two expressions, where both are enumeration literals.
+#[tactic(auto, unfolding(crate::specs::Named::both))]
 fn both_literals(
     alloc: Global,
     text: &[u8],
@@ -75,8 +77,8 @@ fn both_literals(
     left: &Expr,
     right: &Expr,
 ) -> Result<Option<LiteralBounds>, AllocError>
-    ensures { IfOk result (λ found. IfSome found (λ names.
-        spec.IsLiteral text.now regions.now left.now (string_bytes names.left) × spec.IsLiteral text.now regions.now right.now (string_bytes names.right))) }
+    ensures { IfOk result (λ found. option_map spec.names_of found ≡
+        spec.both (spec.literal_name text.now regions.now left.now) (spec.literal_name text.now regions.now right.now)) }
 {
     let Some(left) = literal_name(alloc, text, regions, left)? else {
         return Ok(None);
@@ -89,13 +91,14 @@ fn both_literals(
 
 /// The names of two bounds, where both are enumeration literals and nothing else (5.2.1). The types of each are those
 /// of the literals that the name denotes.
+#[tactic(auto, unfolding(crate::specs::Named::literal_names))]
 pub fn literal_bounds(
     alloc: Global,
     text: &[u8],
     regions: &Regions,
     bounds: &Bounds,
 ) -> Result<Option<LiteralBounds>, AllocError>
-    ensures { IfOk result (λ found. IfSome found (λ names. spec.AreLiterals text.now regions.now bounds.now (string_bytes names.left) (string_bytes names.right))) }
+    ensures { IfOk result (λ found. option_map spec.names_of found ≡ spec.literal_names text.now regions.now bounds.now) }
 {
     match bounds {
         Bounds::Range(left, _, right) => both_literals(alloc, text, regions, left, right),

@@ -40,8 +40,9 @@ pub(crate) fn check_objects(
         subtype,
         initial,
     )?;
-    checker.objects(class, names, subtype, initial)?;
-    Ok(resolved)
+    checker
+        .objects(class, names, subtype, initial)
+        .and(Ok(resolved))
 }
 
 #[tactic(auto, unfolding(crate::specs::Statements::object_declaration))]
@@ -73,8 +74,7 @@ fn check_enumeration(
         checker.around(),
         declaration,
     )?;
-    checker.enumeration(declaration)?;
-    Ok(resolved)
+    checker.enumeration(declaration).and(Ok(resolved))
 }
 
 #[tactic(auto, unfolding(crate::specs::Statements::of_subtyped, vhdl_checker::specs::Progress::walk))]
@@ -91,8 +91,7 @@ fn check_subtyped(
         checker.around(),
         declaration,
     )?;
-    checker.subtyped(declaration)?;
-    Ok(resolved)
+    checker.subtyped(declaration).and(Ok(resolved))
 }
 
 #[tactic(auto, unfolding(crate::specs::Statements::of_attribute, vhdl_checker::specs::Progress::walk))]
@@ -109,8 +108,7 @@ fn check_attribute(
         checker.around(),
         declaration,
     )?;
-    checker.attributed(declaration)?;
-    Ok(resolved)
+    checker.attributed(declaration).and(Ok(resolved))
 }
 
 #[tactic(auto, unfolding(crate::specs::Statements::of_declaration))]

@@ -81,8 +81,7 @@ pub(crate) fn check_label(
     ensures meaning { IfOk result (λ v. v ≡ (spec.of_label label.now).at checker.old) }
 {
     let resolved = label_here(checker.alloc(), checker.text(), checker.around(), label)?;
-    declare_label(checker, label)?;
-    Ok(resolved)
+    declare_label(checker, label).and(Ok(resolved))
 }
 
 // ---- statements without others in them
@@ -93,8 +92,9 @@ fn check_wait(checker: &mut Checker<'_>, statement: &Wait) -> Result<ResolvedBod
     ensures meaning { IfOk result (λ v. v ≡ (spec.of_wait statement.now).at checker.old) }
 {
     let resolved = wait_resolved(checker.alloc(), checker.text(), checker.around(), statement)?;
-    checker.waits(statement)?;
-    Ok(ResolvedBody::Wait(resolved))
+    checker
+        .waits(statement)
+        .and(Ok(ResolvedBody::Wait(resolved)))
 }
 
 #[tactic(auto, unfolding(crate::specs::Statements::of_assertion, vhdl_checker::specs::Progress::walk))]
@@ -111,8 +111,9 @@ fn check_assertion(
         checker.around(),
         statement,
     )?;
-    checker.asserted(statement)?;
-    Ok(ResolvedBody::Assert(resolved))
+    checker
+        .asserted(statement)
+        .and(Ok(ResolvedBody::Assert(resolved)))
 }
 
 #[tactic(auto, unfolding(crate::specs::Statements::of_report, vhdl_checker::specs::Progress::walk))]
@@ -121,8 +122,9 @@ fn check_report(checker: &mut Checker<'_>, statement: &Report) -> Result<Resolve
     ensures meaning { IfOk result (λ v. v ≡ (spec.of_report statement.now).at checker.old) }
 {
     let resolved = report_resolved(checker.alloc(), checker.text(), statement)?;
-    checker.reported(statement)?;
-    Ok(ResolvedBody::Report(resolved))
+    checker
+        .reported(statement)
+        .and(Ok(ResolvedBody::Report(resolved)))
 }
 
 #[tactic(auto, unfolding(crate::specs::Statements::of_assignment, vhdl_checker::specs::Progress::walk))]
@@ -139,14 +141,15 @@ fn check_assignment(
         checker.around(),
         statement,
     )?;
-    checker.assigned(
-        &statement.target,
-        &statement.delay,
-        statement.waveform.as_slice(),
-        &[],
-        None,
-    )?;
-    Ok(ResolvedBody::Signal(resolved))
+    checker
+        .assigned(
+            &statement.target,
+            &statement.delay,
+            statement.waveform.as_slice(),
+            &[],
+            None,
+        )
+        .and(Ok(ResolvedBody::Signal(resolved)))
 }
 
 // The event changes nothing that stands around.
@@ -168,8 +171,9 @@ fn check_next(checker: &mut Checker<'_>, statement: &Jump) -> Result<ResolvedBod
     ensures meaning { IfOk result (λ v. v ≡ (spec.of_next statement.now).at checker.old) }
 {
     let resolved = jump_resolved(checker.alloc(), checker.text(), checker.around(), statement)?;
-    checker.jumped(statement)?;
-    Ok(ResolvedBody::Next(resolved))
+    checker
+        .jumped(statement)
+        .and(Ok(ResolvedBody::Next(resolved)))
 }
 
 #[tactic(auto, unfolding(crate::specs::Statements::of_exit, vhdl_checker::specs::Progress::walk))]
@@ -178,8 +182,9 @@ fn check_exit(checker: &mut Checker<'_>, statement: &Jump) -> Result<ResolvedBod
     ensures meaning { IfOk result (λ v. v ≡ (spec.of_exit statement.now).at checker.old) }
 {
     let resolved = jump_resolved(checker.alloc(), checker.text(), checker.around(), statement)?;
-    checker.jumped(statement)?;
-    Ok(ResolvedBody::Exit(resolved))
+    checker
+        .jumped(statement)
+        .and(Ok(ResolvedBody::Exit(resolved)))
 }
 
 // ---- statements with others in them

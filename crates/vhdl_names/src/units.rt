@@ -65,8 +65,7 @@ fn check_sensitivity(
         checker.around(),
         sensitivity,
     )?;
-    walk_sensitivity(checker, sensitivity)?;
-    Ok(resolved)
+    walk_sensitivity(checker, sensitivity).and(Ok(resolved))
 }
 
 fn check_process(
@@ -106,14 +105,15 @@ fn check_assignment(
         checker.around(),
         statement,
     )?;
-    checker.assigned(
-        &statement.target,
-        &statement.delay,
-        statement.waveform.as_slice(),
-        statement.alternatives.as_slice(),
-        statement.condition.as_ref(),
-    )?;
-    Ok(ResolvedConcurrentBody::Assignment(resolved))
+    checker
+        .assigned(
+            &statement.target,
+            &statement.delay,
+            statement.waveform.as_slice(),
+            statement.alternatives.as_slice(),
+            statement.condition.as_ref(),
+        )
+        .and(Ok(ResolvedConcurrentBody::Assignment(resolved)))
 }
 
 #[tactic(auto, unfolding(crate::specs::Units::of_instance, vhdl_checker::specs::Progress::walk))]
@@ -125,8 +125,9 @@ fn check_instance(
     ensures meaning { IfOk result (λ v. v ≡ (spec.of_instance instance.now).at checker.old) }
 {
     let resolved = instance_resolved(checker.alloc(), checker.text(), checker.around(), instance)?;
-    checker.instance(instance)?;
-    Ok(ResolvedConcurrentBody::Instance(resolved))
+    checker
+        .instance(instance)
+        .and(Ok(ResolvedConcurrentBody::Instance(resolved)))
 }
 
 #[tactic(auto, unfolding(crate::specs::Units::process_body))]

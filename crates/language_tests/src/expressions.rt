@@ -4,10 +4,10 @@
 use crate::names::shown;
 use std::alloc::{AllocError, Global};
 use std::test::Fail;
-use vhdl_scope::{Regions, standard};
+use vhdl_names_scope::{Regions, standard};
+use vhdl_names_typing::tell;
 use vhdl_tokens::{Kind, Token};
 use vhdl_tree::Expr;
-use vhdl_typing::tell;
 
 fn token(kind: Kind, start: u32, end: u32) -> Token {
     Token {

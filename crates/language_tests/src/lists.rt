@@ -2,8 +2,8 @@
 
 use sqlite_items::Items;
 use std::alloc::{AllocError, Global};
-use vhdl_overloads::{Meanings, Overloads, Types, met};
-use vhdl_types::{BaseType, Entry};
+use vhdl_names_overloads::{Meanings, Overloads, Types, met};
+use vhdl_units::{BaseType, Entry};
 
 // These types.
 pub(crate) fn types(alloc: Global, list: &[BaseType]) -> Result<Types, AllocError> {

@@ -5,10 +5,10 @@ use crate::lists::{listed, meanings};
 use sqlite_items::Items;
 use std::alloc::{AllocError, Global};
 use std::test::Fail;
-use vhdl_overloads::Types;
+use vhdl_names_overloads::Types;
+use vhdl_names_typing::{Form, NameTold, PartTold, Told, begun, extended, finished, value_of};
 use vhdl_tokens::{Kind, Token};
-use vhdl_types::{BaseType, Class, Entry, Fault, Function, Mark, Object, TimeUnit};
-use vhdl_typing::{Form, NameTold, PartTold, Told, begun, extended, finished, value_of};
+use vhdl_units::{BaseType, Class, Entry, Fault, Function, Mark, Object, TimeUnit};
 
 const EDGE: Entry = Entry::Function(Function::RisingEdge);
 

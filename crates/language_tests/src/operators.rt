@@ -2,7 +2,7 @@
 
 use crate::lists::{listed, types};
 use std::test::Fail;
-use vhdl_operators::{
+use vhdl_names_operators::{
     all_arrays, can_be, can_be_from, common_discrete, compares, fits_alone, has, narrow, of_bits,
     of_string, only, relates, results, results_from,
 };
@@ -12,8 +12,8 @@ use vhdl_tree::Operator::{
 };
 use vhdl_tree::Unary::{Abs, Minus, Not, Plus};
 use vhdl_tree::{Operator, Unary};
-use vhdl_types::BaseType;
-use vhdl_types::BaseType::{
+use vhdl_units::BaseType;
+use vhdl_units::BaseType::{
     Bit, BitVector, Boolean, Character, Integer, IntegerVector, Own, StdUlogic, StdUlogicVector,
     Time,
 };

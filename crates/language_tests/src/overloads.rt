@@ -3,10 +3,10 @@
 use crate::lists::{denoted, listed, meanings};
 use std::alloc::{AllocError, Global};
 use std::test::Fail;
-use vhdl_operators::{common_discrete, one_shared};
-use vhdl_overloads::{Meanings, Overloads, Types, met};
-use vhdl_scope::{Region, Regions};
-use vhdl_types::{BaseType, Class, Entry, Object};
+use vhdl_names_operators::{common_discrete, one_shared};
+use vhdl_names_overloads::{Meanings, Overloads, Types, met};
+use vhdl_names_scope::{Region, Regions};
+use vhdl_units::{BaseType, Class, Entry, Object};
 
 const SIGNAL: Entry = Entry::Object(Object {
     number: 0,

@@ -3,9 +3,11 @@
 use crate::lists::denoted;
 use std::alloc::Global;
 use std::test::Fail;
-use vhdl_scope::{Region, Regions, STANDARD_MARKS, overloading, standard, standard_numbers, word};
+use vhdl_names_scope::{
+    Region, Regions, STANDARD_MARKS, overloading, standard, standard_numbers, word,
+};
 use vhdl_tokens::{Kind, Token};
-use vhdl_types::{BaseType, Class, Entry, Function, Mark, Object, TimeUnit};
+use vhdl_units::{BaseType, Class, Entry, Function, Mark, Object, TimeUnit};
 
 const OWN: BaseType = BaseType::Own(STANDARD_MARKS);
 

@@ -3,7 +3,7 @@
 use sim_design::Design;
 use sim_session::{DesignFault, SessionFault, read_text};
 use std::test::Fail;
-use vhdl_types::{Fault, Rule};
+use vhdl_units::{Fault, Rule};
 
 const PULSE: &str =
     "entity top is end;\narchitecture a of top is\n  signal s : bit;\nbegin\n  s <= '1' after 2 ns, '0' after 5 ns;\nend;\n";

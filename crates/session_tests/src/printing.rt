@@ -3,15 +3,14 @@
 
 use crate::values::{push_bytes, push_choices, push_reference, push_value};
 use std::test::Fail;
-use vhdl_types::Mark;
 use vhdl_units::{
-    Declared, RangeValue, ResolvedActual, ResolvedArchitecture, ResolvedArm, ResolvedAssertion,
-    ResolvedAssignment, ResolvedAssociation, ResolvedBody, ResolvedCase, ResolvedConcurrent,
-    ResolvedConcurrentAssignment, ResolvedConcurrentBody, ResolvedConstraint, ResolvedDeclaration,
-    ResolvedDelay, ResolvedElement, ResolvedElsif, ResolvedEntity, ResolvedIf, ResolvedInstance,
-    ResolvedJump, ResolvedLoop, ResolvedObjects, ResolvedProcess, ResolvedReport, ResolvedScheme,
-    ResolvedSensitivity, ResolvedStatement, ResolvedSubtype, ResolvedType, ResolvedUnit,
-    ResolvedWait, Units, Value,
+    Declared, Mark, RangeValue, ResolvedActual, ResolvedArchitecture, ResolvedArm,
+    ResolvedAssertion, ResolvedAssignment, ResolvedAssociation, ResolvedBody, ResolvedCase,
+    ResolvedConcurrent, ResolvedConcurrentAssignment, ResolvedConcurrentBody, ResolvedConstraint,
+    ResolvedDeclaration, ResolvedDelay, ResolvedElement, ResolvedElsif, ResolvedEntity, ResolvedIf,
+    ResolvedInstance, ResolvedJump, ResolvedLoop, ResolvedObjects, ResolvedProcess, ResolvedReport,
+    ResolvedScheme, ResolvedSensitivity, ResolvedStatement, ResolvedSubtype, ResolvedType,
+    ResolvedUnit, ResolvedWait, Units, Value,
 };
 
 // ---- parts

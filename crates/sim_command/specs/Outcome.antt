@@ -1,14 +1,14 @@
 use Rattle.std.specs.Prelude.{◌≡◌, ℕ, ◌<◌, ◌≤◌, List, ◌++◌, take, length, Option, Some, None, Result, Ok, Err, ◌⊎◌, codes, decimal}
 use Rattle.sim_design.specs.declared.Design.{Design}
-use Rattle.vhdl_types.specs.Faults.{number_of}
-use Rattle.vhdl_types.specs.declared.fault.Fault.{Fault}
+use Rattle.vhdl_units.specs.Faults.{number_of}
+use Rattle.vhdl_units.specs.declared.fault.Fault.{Fault}
 use Rattle.sim_session.specs.Text.{FirstForm, IsRefusedText}
 use Rattle.sim_session.specs.declared.fault.DesignFault.{DesignFault}
 use Rattle.sim_session.specs.declared.fault.DesignFault.TheVariants as design
 use Rattle.sim_journal.specs.declared.Entry.{Entry}
 use Rattle.sim_journal.specs.declared.End.{End}
 use Rattle.sim_journal.specs.Print.{Print}
-use Rattle.sim_cycle.specs.Run.{IsRun, Part}
+use Rattle.vhpi_kernel.specs.Run.{IsRun, Part}
 use Rattle.sim_host.specs.Host.{Seen, Written, TextHas, WroteFront, wrote, added, also_asked, bytes_of, Files, Rose}
 use Rattle.sim_host.specs.declared.names.Asked.TheVariants.{Start}
 use Rattle.sim_host.specs.declared.channels.Channel.TheVariants as channel

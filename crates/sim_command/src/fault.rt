@@ -8,7 +8,7 @@ use sim_host::ReadError;
 use sim_memory::NoMemory;
 use sim_session::{DesignFault, SessionFault};
 use std::alloc::Global;
-use vhdl_types::Fault;
+use vhdl_units::Fault;
 
 /// Why a command wasn't done.
 #[derive(Clone, Copy, Debug, PartialEq, Eq)]

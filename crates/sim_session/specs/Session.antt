@@ -4,7 +4,7 @@ use Rattle.sim_session.specs.Text.{FirstForm, IsRefusedText}
 use Rattle.sim_journal.specs.declared.Entry.{Entry}
 use Rattle.sim_journal.specs.declared.End.{End}
 use Rattle.sim_journal.specs.Print.{Print}
-use Rattle.sim_cycle.specs.Run.{IsRun, Part}
+use Rattle.vhpi_kernel.specs.Run.{IsRun, Part}
 use Rattle.sim_host.specs.Host.{Seen, wrote, Rose}
 use Rattle.sim_host.specs.declared.channels.Channel.TheVariants as channel
 use Rattle.sim_session.specs.declared.fault.DesignFault.{DesignFault}

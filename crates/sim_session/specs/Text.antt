@@ -6,7 +6,7 @@ use Rattle.vhdl_tokens.specs.Text.{Tokens, IsFault}
 use Rattle.vhdl_tree.specs.declared.units.DesignFile.{DesignFile}
 use Rattle.vhdl_tree.specs.Units.{Sentence}
 use Rattle.vhdl_tree.specs.Faults.{NestsWell, IsSyntaxRefusal, IsNestingRefusal}
-use Rattle.vhdl_types.specs.declared.fault.Fault.{Fault}
+use Rattle.vhdl_units.specs.declared.fault.Fault.{Fault}
 use Rattle.vhdl_names.specs.Static.{Static}
 use Rattle.sim_design.specs.declared.Design.{Design}
 use Rattle.first_form.specs.FirstForm.{IsForm}

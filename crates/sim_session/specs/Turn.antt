@@ -3,9 +3,9 @@ use Rattle.sim_design.specs.declared.Design.{Design}
 use Rattle.sim_journal.specs.declared.Entry.{Entry}
 use Rattle.sim_journal.specs.declared.End.{End}
 use Rattle.sim_journal.specs.Print.{Print}
-use Rattle.sim_cycle.specs.declared.Plan.{Plan}
-use Rattle.sim_cycle.specs.Run.{IsRun, Part}
-use Rattle.sim_cycle.specs.World.{World, Extends, sections_left}
+use Rattle.vhpi_kernel.specs.declared.Plan.{Plan}
+use Rattle.vhpi_kernel.specs.Run.{IsRun, Part}
+use Rattle.vhpi_kernel.specs.Simulation.{Simulation, Extends, sections_left}
 use Rattle.sim_host.specs.Host.{Seen, wrote}
 use Rattle.sim_host.specs.declared.channels.Channel.TheVariants as channel
 use Rattle.vhpi_kernel.specs.declared.Step.{Step}
@@ -14,12 +14,12 @@ use Rattle.sim_session.specs.declared.fault.SessionFault.{SessionFault}
 use Rattle.sim_session.specs.declared.fault.SessionFault.TheVariants as fault
 
 -- after a section the run has ended so, or fewer sections are left
-abbrev pub IsAfter : Step → World → World → Type 0
+abbrev pub IsAfter : Step → Simulation → Simulation → Type 0
 IsAfter steps.CycleEnd old new = sections_left new < sections_left old
 IsAfter (steps.Ended end) old new = new.ended ≡ Some end
 
 -- a section was made and its entries were written
-pub record Turned (step : Step) (old new : World) (was now : Seen) : Type 0 where
+pub record Turned (step : Step) (old new : Simulation) (was now : Seen) : Type 0 where
   pub added : List Entry
   pub extends : Extends old added new
   pub design : new.design ≡ old.design
@@ -28,16 +28,16 @@ pub record Turned (step : Step) (old new : World) (was now : Seen) : Type 0 wher
   pub written : now ≡ wrote channel.Out (Print old.design added) was
 
 -- a section was made, perhaps, and a front of the lines of its entries was written
-pub record TurnCut (old : World) (was now : Seen) : Type 0 where
+pub record TurnCut (old : Simulation) (was now : Seen) : Type 0 where
   pub added : List Entry
-  pub later : World
+  pub later : Simulation
   pub extends : Extends old added later
   pub front : List ℕ
   pub rest : List ℕ
   pub lines : Print old.design added ≡ front ++ rest
   pub written : now ≡ wrote channel.Out front was
 
-abbrev pub Turns : Result Step SessionFault → World → World → Seen → Seen → Type 0
+abbrev pub Turns : Result Step SessionFault → Simulation → Simulation → Seen → Seen → Type 0
 Turns (Ok step) old new was now = Turned step old new was now
 Turns (Err (fault.Design f)) old new was now = ⊥
 Turns (Err e) old new was now = TurnCut old was now

@@ -8,7 +8,7 @@ use std::error::Error;
 use std::fmt;
 use vhdl_reader::SyntaxError;
 use vhdl_tokens::TokenError;
-use vhdl_types::Fault;
+use vhdl_units::Fault;
 
 /// Why the text of a design file can't be run.
 #[derive(Clone, Copy, Debug, PartialEq, Eq)]

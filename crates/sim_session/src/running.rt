@@ -1,18 +1,17 @@
 ghost use Rattle.std.specs.Prelude.{◌≡◌, ◌≤◌, [], ◌++◌, IfOk, length};
 ghost use Rattle.sim_journal.specs.Print.{Print};
-ghost use Rattle.sim_cycle.specs.World.{first_world};
+ghost use Rattle.vhpi_kernel.specs.Simulation.{first_simulation};
 ghost use Rattle.sim_session.specs.Session.{Runs, HasSessionCause};
 ghost use Rattle.sim_session.specs.Turn.{Turns, RunsFrom};
 
 use crate::SessionFault;
 use crate::reading::read_text;
-use sim_cycle::Plan;
 use sim_design::Design;
 use sim_host::{Channel, Host, write_all};
 use sim_journal::{End, Entry, append_entry};
 use sim_memory::NoMemory;
 use std::alloc::Global;
-use vhpi_kernel::{Kernel, Step};
+use vhpi_kernel::{Kernel, Plan, Step};
 
 /// What a session is to run: the text of a design file, and the number of the cycle with which the
 /// run ends at the latest.
@@ -47,7 +46,7 @@ fn turn<H: Host>(alloc: Global, kernel: &mut Kernel, host: &mut H) -> Result<Ste
 
 // Makes all sections of a run that begins.
 fn run<H: Host>(alloc: Global, kernel: &mut Kernel, host: &mut H) -> Result<End, SessionFault>
-    requires { kernel.old ≡ first_world kernel.old.design kernel.old.plan }
+    requires { kernel.old ≡ first_simulation kernel.old.design kernel.old.plan }
     ensures runs { RunsFrom result kernel.old.design kernel.old.plan (H.seen host.old) (H.seen host.new) }
     ensures cause { HasSessionCause (H.faults host.old) (H.faults host.new) result }
 {

@@ -2,11 +2,11 @@
 use Rattle.std.proofs.Common.{◌≡◌, ℕ, Option, Some, None, List, [], ◌∷◌, ◌++◌, ◌⊎◌, inl, inr, refl, sym, ap, ◌∙◌, subst}
 use Rattle.std.proofs.lemmas.List.Elements.{Contains-append_cases, Contains-append_left, Contains-append_right}
 use Rattle.std.specs.List.{Contains}
-use Rattle.vhdl_checker.specs.After.{after}
-use Rattle.vhdl_checker.specs.Events.{Event}
-use Rattle.vhdl_checker.specs.Faults.{faults}
-use Rattle.vhdl_checker.specs.Progress.{Progress, setting_out, step, walk}
-use Rattle.vhdl_scope.specs.Declarations.{Named}
+use Rattle.vhdl_names_checker.specs.After.{after}
+use Rattle.vhdl_names_checker.specs.Events.{Event}
+use Rattle.vhdl_names_checker.specs.Faults.{faults}
+use Rattle.vhdl_names_checker.specs.Progress.{Progress, setting_out, step, walk}
+use Rattle.vhdl_names_scope.specs.Declarations.{Named}
 use Rattle.vhdl_tree.specs.declared.units.DesignFile.{DesignFile}
 use Rattle.vhdl_names.proofs.Order.{before_both, none_in, some_first}
 use Rattle.vhdl_names.specs.First.{IsFirst}
@@ -15,7 +15,7 @@ use Rattle.vhdl_names.specs.Parts.{all_at, events_of}
 use Rattle.vhdl_names.specs.Units.{architectures, of_file, of_units, units_of}
 use Rattle.vhdl_tree.specs.declared.units.DesignUnit.{DesignUnit}
 use Rattle.vhdl_units.specs.declared.units.ResolvedUnit.{ResolvedUnit}
-use Rattle.vhdl_types.specs.declared.fault.Fault.{Fault}
+use Rattle.vhdl_units.specs.declared.fault.Fault.{Fault}
 
 -- ---- what is found is broken
 

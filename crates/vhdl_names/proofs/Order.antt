@@ -6,10 +6,10 @@ use Rattle.std.proofs.lemmas.List.Elements.{Contains-append_left, Contains-push,
 use Rattle.std.specs.List.{Contains}
 use Rattle.vhdl_names.specs.First.{IsFirst, earlier}
 use Rattle.vhdl_names.specs.Static.{IsBefore, is_before}
-use Rattle.vhdl_types.specs.Faults.{number_of}
-use Rattle.vhdl_types.specs.declared.fault.Fault.{Fault}
-use Rattle.vhdl_types.specs.declared.fault.Rule.{Rule}
-use Rattle.vhdl_types.specs.declared.fault.Rule.TheVariants as rule
+use Rattle.vhdl_units.specs.Faults.{number_of}
+use Rattle.vhdl_units.specs.declared.fault.Fault.{Fault}
+use Rattle.vhdl_units.specs.declared.fault.Rule.{Rule}
+use Rattle.vhdl_units.specs.declared.fault.Rule.TheVariants as rule
 
 before_itself : (f : Fault) → IsBefore f f
 unfolding is_before

@@ -3,10 +3,10 @@ use Rattle.std.proofs.Common.{◌≡◌, ℕ, ◌+◌, ◌-◌, ◌<◌, ◌≤�
 use Rattle.std.proofs.Math.Dec.{eqb-suc-zero}
 use Rattle.std.proofs.lemmas.Bool.Decides.{nat_tests}
 use Rattle.std.proofs.lemmas.List.{drop_all, drop_more, length-drop, length-map}
-use Rattle.vhdl_checker.specs.Events.{Event}
-use Rattle.vhdl_checker.specs.Progress.{Progress, step, walk}
-use Rattle.vhdl_resolving.specs.Declarations.{label_here}
-use Rattle.vhdl_resolving.specs.Statements.{choices_resolved, scheme_resolved, subject_resolved}
+use Rattle.vhdl_names_checker.specs.Events.{Event}
+use Rattle.vhdl_names_checker.specs.Progress.{Progress, step, walk}
+use Rattle.vhdl_names_resolving.specs.Declarations.{label_here}
+use Rattle.vhdl_names_resolving.specs.Statements.{choices_resolved, scheme_resolved, subject_resolved}
 use Rattle.vhdl_tokens.specs.declared.token.Token.{Token}
 use Rattle.vhdl_tree.specs.declared.expressions.Choice.{Choice}
 use Rattle.vhdl_tree.specs.declared.statements.Arm.{Arm, out-Arm}

@@ -1,14 +1,14 @@
 -- The walk along processes, entities, architectures and units, and what they mean, by those of their parts.
 use Rattle.std.proofs.Common.{◌≡◌, ℕ, Bool, Option, List, map, refl, ap, ◌∙◌}
-use Rattle.vhdl_checker.specs.After.{entity_number}
-use Rattle.vhdl_checker.specs.Events.{Event}
-use Rattle.vhdl_checker.specs.Progress.{Progress, step, walk}
+use Rattle.vhdl_names_checker.specs.After.{entity_number}
+use Rattle.vhdl_names_checker.specs.Events.{Event}
+use Rattle.vhdl_names_checker.specs.Progress.{Progress, step, walk}
 use Rattle.vhdl_names.specs.Parts.{all_at, events_of}
 use Rattle.vhdl_names.specs.Statements.{of_declaration, of_declarations, of_statement, of_statements}
 use Rattle.vhdl_names.specs.Units.{architecture_at, architecture_events, entity_at, entity_events, is_bare, is_listed, of_architecture, of_concurrent, of_entity, of_generic, of_port, of_process, of_sensitivity, process_at, process_events, sensitivity_events}
 use Rattle.vhdl_names.proofs.Parts.{Goes}
 use Rattle.vhdl_names.proofs.Walks.{just_event, then_all, then_event, then_part}
-use Rattle.vhdl_scope.specs.Names.{word_in}
+use Rattle.vhdl_names_scope.specs.Names.{word_in}
 use Rattle.vhdl_tokens.specs.Meaning.{span}
 use Rattle.vhdl_tokens.specs.declared.token.Token.{Token}
 use Rattle.vhdl_tree.specs.declared.declarations.Declaration.{Declaration}

@@ -1,7 +1,7 @@
 -- The first of a list of faults.
 use Rattle.std.specs.Prelude.{Contains, List, None, Option, Some, [], if◌then◌else◌, ◌≡◌}
 use Rattle.vhdl_names.specs.Static.{IsBefore, is_before}
-use Rattle.vhdl_types.specs.declared.fault.Fault.{Fault}
+use Rattle.vhdl_units.specs.declared.fault.Fault.{Fault}
 
 -- a fault that comes before others stays, and of two of one place and rule the first
 unfoldable pub earlier : Option Fault → Fault → Fault

@@ -1,7 +1,7 @@
 -- A part of a design file: its events, in the order of its text, and what it means by what stands before it.
 use Rattle.std.specs.Prelude.{Bool, List, [], false, true, ◌++◌, ◌∷◌}
-use Rattle.vhdl_checker.specs.Events.{Event}
-use Rattle.vhdl_checker.specs.Progress.{Progress, walk}
+use Rattle.vhdl_names_checker.specs.Events.{Event}
+use Rattle.vhdl_names_checker.specs.Progress.{Progress, walk}
 
 pub record Part (X : Type 0) : Type 0 where
   pub events : List Event

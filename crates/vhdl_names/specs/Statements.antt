@@ -1,12 +1,12 @@
 -- Sequential statements and declarations: their events, in the order of their text, and what they mean (IEEE Std
 -- 1076-2008, clauses 6 and 10).
 use Rattle.std.specs.Prelude.{Bool, List, None, Option, Some, [], map, ◌++◌, ◌∷◌}
-use Rattle.vhdl_checker.specs.Events.{Event}
-use Rattle.vhdl_checker.specs.Progress.{Progress, step, walk}
+use Rattle.vhdl_names_checker.specs.Events.{Event}
+use Rattle.vhdl_names_checker.specs.Progress.{Progress, step, walk}
 use Rattle.vhdl_names.specs.Parts.{Part, all_at, events_of, with_last}
-use Rattle.vhdl_resolving.specs.Declarations.{attribute_resolved, enumeration_resolved, label_here, objects_resolved, subtyped_resolved}
-use Rattle.vhdl_resolving.specs.Statements.{assertion_resolved, assignment_resolved, choices_resolved, jump_resolved, report_resolved, scheme_resolved, subject_resolved, variable_resolved, wait_resolved}
-use Rattle.vhdl_resolving.specs.Values.{value_at}
+use Rattle.vhdl_names_resolving.specs.Declarations.{attribute_resolved, enumeration_resolved, label_here, objects_resolved, subtyped_resolved}
+use Rattle.vhdl_names_resolving.specs.Statements.{assertion_resolved, assignment_resolved, choices_resolved, jump_resolved, report_resolved, scheme_resolved, subject_resolved, variable_resolved, wait_resolved}
+use Rattle.vhdl_names_resolving.specs.Values.{value_at}
 use Rattle.vhdl_tokens.specs.declared.token.Token.{Token}
 use Rattle.vhdl_tree.specs.declared.declarations.AttributeSpecification.{AttributeSpecification}
 use Rattle.vhdl_tree.specs.declared.declarations.Declaration.{Declaration}
@@ -27,7 +27,7 @@ use Rattle.vhdl_tree.specs.declared.statements.SignalAssignment.{SignalAssignmen
 use Rattle.vhdl_tree.specs.declared.statements.Statement.{Statement}
 use Rattle.vhdl_tree.specs.declared.statements.VariableAssignment.{VariableAssignment}
 use Rattle.vhdl_tree.specs.declared.statements.Wait.{Wait}
-use Rattle.vhdl_types.specs.declared.entry.Class.{Class}
+use Rattle.vhdl_units.specs.declared.entry.Class.{Class}
 use Rattle.vhdl_units.specs.declared.declarations.Declared.{Declared}
 use Rattle.vhdl_units.specs.declared.declarations.ResolvedDeclaration.{ResolvedDeclaration}
 use Rattle.vhdl_units.specs.declared.declarations.ResolvedObjects.{ResolvedObjects}
@@ -39,8 +39,8 @@ use Rattle.vhdl_units.specs.declared.statements.ResolvedIf.{ResolvedIf, roll-Res
 use Rattle.vhdl_units.specs.declared.statements.ResolvedLoop.{ResolvedLoop, roll-ResolvedLoop}
 use Rattle.vhdl_units.specs.declared.statements.ResolvedStatement.{ResolvedStatement, roll-ResolvedStatement}
 use Rattle.vhdl_units.specs.declared.values.Value.{Value}
-use Rattle.vhdl_types.specs.declared.base_type.BaseType.TheVariants as base
-use Rattle.vhdl_types.specs.declared.entry.Class.TheVariants as class
+use Rattle.vhdl_units.specs.declared.base_type.BaseType.TheVariants as base
+use Rattle.vhdl_units.specs.declared.entry.Class.TheVariants as class
 use Rattle.vhdl_tree.specs.declared.declarations.Declaration.TheVariants as declaration
 use Rattle.vhdl_units.specs.declared.statements.ResolvedBody.TheVariants as resolved
 use Rattle.vhdl_units.specs.declared.declarations.ResolvedDeclaration.TheVariants as resolved_declaration

@@ -1,14 +1,14 @@
 -- The static rules of a design file: that none is broken, or which is answered.
 use Rattle.std.specs.Prelude.{Bool, Contains, List, None, Option, Some, [], nat_lt, not, true, ℕ, ◌&&◌, ◌++◌, ◌==◌, ◌||◌, ◌∷◌, ◌≡◌}
-use Rattle.vhdl_checker.specs.After.{after}
-use Rattle.vhdl_checker.specs.Around.{Around, beginning}
-use Rattle.vhdl_checker.specs.Events.{Event}
-use Rattle.vhdl_checker.specs.Faults.{faults}
+use Rattle.vhdl_names_checker.specs.After.{after}
+use Rattle.vhdl_names_checker.specs.Around.{Around, beginning}
+use Rattle.vhdl_names_checker.specs.Events.{Event}
+use Rattle.vhdl_names_checker.specs.Faults.{faults}
 use Rattle.vhdl_names.specs.Units.{architectures, of_file}
-use Rattle.vhdl_scope.specs.Declarations.{Named}
+use Rattle.vhdl_names_scope.specs.Declarations.{Named}
 use Rattle.vhdl_tree.specs.declared.units.DesignFile.{DesignFile}
-use Rattle.vhdl_types.specs.Faults.{number_of}
-use Rattle.vhdl_types.specs.declared.fault.Fault.{Fault}
+use Rattle.vhdl_units.specs.Faults.{number_of}
+use Rattle.vhdl_units.specs.declared.fault.Fault.{Fault}
 
 -- what stands around the place behind some events
 unfoldable pub behind : List ℕ → Around → List Event → Around

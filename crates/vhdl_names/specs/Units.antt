@@ -2,17 +2,17 @@
 -- 1076-2008, clauses 3, 11, 13).
 use Rattle.std.specs.List.{flat_map, list_all}
 use Rattle.std.specs.Prelude.{Bool, List, Option, [], codes, false, length, map, true, ℕ, ◌&&◌, ◌++◌, ◌==◌, ◌∷◌}
-use Rattle.vhdl_checker.specs.After.{architecture_key, entity_number}
-use Rattle.vhdl_checker.specs.Events.{Event}
-use Rattle.vhdl_checker.specs.Progress.{Progress, setting_out, step, walk}
+use Rattle.vhdl_names_checker.specs.After.{architecture_key, entity_number}
+use Rattle.vhdl_names_checker.specs.Events.{Event}
+use Rattle.vhdl_names_checker.specs.Progress.{Progress, setting_out, step, walk}
 use Rattle.vhdl_names.specs.Parts.{Part, all_at, events_of}
 use Rattle.vhdl_names.specs.Statements.{label_events, of_declarations, of_objects, of_statements}
-use Rattle.vhdl_resolving.specs.Declarations.{label_here}
-use Rattle.vhdl_resolving.specs.Instances.{instance_resolved}
-use Rattle.vhdl_resolving.specs.Statements.{concurrent_resolved, sensitivity_resolved}
-use Rattle.vhdl_rules.specs.Units.{is_word}
-use Rattle.vhdl_scope.specs.Declarations.{Named}
-use Rattle.vhdl_scope.specs.Names.{word_in}
+use Rattle.vhdl_names_resolving.specs.Declarations.{label_here}
+use Rattle.vhdl_names_resolving.specs.Instances.{instance_resolved}
+use Rattle.vhdl_names_resolving.specs.Statements.{concurrent_resolved, sensitivity_resolved}
+use Rattle.vhdl_names_rules.specs.Units.{is_word}
+use Rattle.vhdl_names_scope.specs.Declarations.{Named}
+use Rattle.vhdl_names_scope.specs.Names.{word_in}
 use Rattle.vhdl_tokens.specs.Meaning.{span}
 use Rattle.vhdl_tokens.specs.declared.token.Token.{Token}
 use Rattle.vhdl_tree.specs.declared.declarations.Declaration.{Declaration}
@@ -41,11 +41,11 @@ use Rattle.vhdl_units.specs.declared.units.ResolvedProcess.{ResolvedProcess}
 use Rattle.vhdl_units.specs.declared.units.ResolvedSensitivity.{ResolvedSensitivity}
 use Rattle.vhdl_units.specs.declared.units.ResolvedUnit.{ResolvedUnit}
 use Rattle.vhdl_units.specs.declared.units.Units.{Units}
-use Rattle.vhdl_types.specs.declared.entry.Class.TheVariants as class
+use Rattle.vhdl_units.specs.declared.entry.Class.TheVariants as class
 use Rattle.vhdl_tree.specs.declared.units.ConcurrentBody.TheVariants as concurrent_body
 use Rattle.vhdl_tree.specs.declared.units.ContextClause.TheVariants as context_clause
 use Rattle.vhdl_tree.specs.declared.declarations.Declaration.TheVariants as declaration
-use Rattle.vhdl_types.specs.declared.entry.Entry.TheVariants as entry
+use Rattle.vhdl_units.specs.declared.entry.Entry.TheVariants as entry
 use Rattle.vhdl_tree.specs.declared.units.LibraryUnit.TheVariants as library_unit
 use Rattle.vhdl_units.specs.declared.units.ResolvedConcurrentBody.TheVariants as resolved
 use Rattle.vhdl_units.specs.declared.units.ResolvedUnit.TheVariants as resolved_unit

@@ -5,10 +5,10 @@ ghost use Rattle.std.specs.List.{flat_map};
 ghost use Rattle.vhdl_names.specs.Units.{architecture_named, architectures};
 
 use std::alloc::{AllocError, Global};
-use vhdl_checker::architecture_key;
-use vhdl_scope::{Region, word};
+use vhdl_names_checker::architecture_key;
+use vhdl_names_scope::{Region, word};
 use vhdl_tree::{DesignFile, DesignUnit, LibraryUnit};
-use vhdl_types::Entry;
+use vhdl_units::Entry;
 
 #[tactic(auto, unfolding(crate::specs::Units::architecture_named))]
 fn add_architecture(

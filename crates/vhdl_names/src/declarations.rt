@@ -2,25 +2,24 @@
 
 ghost use Rattle.std.specs.Prelude.{◌≡◌, IfOk, OnOk, map};
 ghost use Rattle.std.specs.Option.{option_copied};
-ghost use Rattle.vhdl_checker.specs.Progress.{walk};
+ghost use Rattle.vhdl_names_checker.specs.Progress.{walk};
 ghost use Rattle.vhdl_names.specs.Parts.{all_at, events_of};
 ghost use Rattle.vhdl_names.specs.Statements.{of_attribute, of_declaration, of_declarations, of_enumeration, of_objects, of_subtyped, object_declaration};
 
 use sqlite_items::Items;
 use std::alloc::AllocError;
-use vhdl_checker::Checker;
-use vhdl_resolving::{
+use vhdl_names_checker::Checker;
+use vhdl_names_resolving::{
     attribute_resolved, enumeration_resolved, objects_resolved, subtyped_resolved,
 };
 use vhdl_tokens::Token;
 use vhdl_tree::{
     AttributeSpecification, Declaration, Expr, Subtype, SubtypeDeclaration, TypeDeclaration,
 };
-use vhdl_types::Class;
-use vhdl_units::{ResolvedDeclaration, ResolvedObjects};
+use vhdl_units::{Class, ResolvedDeclaration, ResolvedObjects};
 
 /// A declaration of objects of one class.
-#[tactic(auto, unfolding(crate::specs::Statements::of_objects, vhdl_checker::specs::Progress::walk))]
+#[tactic(auto, unfolding(crate::specs::Statements::of_objects, vhdl_names_checker::specs::Progress::walk))]
 pub(crate) fn check_objects(
     checker: &mut Checker<'_>,
     class: Class,
@@ -60,7 +59,7 @@ fn check_object_declaration(
     Ok(ResolvedDeclaration::Objects(objects))
 }
 
-#[tactic(auto, unfolding(crate::specs::Statements::of_enumeration, vhdl_checker::specs::Progress::walk))]
+#[tactic(auto, unfolding(crate::specs::Statements::of_enumeration, vhdl_names_checker::specs::Progress::walk))]
 fn check_enumeration(
     checker: &mut Checker<'_>,
     declaration: &TypeDeclaration,
@@ -77,7 +76,7 @@ fn check_enumeration(
     checker.enumeration(declaration).and(Ok(resolved))
 }
 
-#[tactic(auto, unfolding(crate::specs::Statements::of_subtyped, vhdl_checker::specs::Progress::walk))]
+#[tactic(auto, unfolding(crate::specs::Statements::of_subtyped, vhdl_names_checker::specs::Progress::walk))]
 fn check_subtyped(
     checker: &mut Checker<'_>,
     declaration: &SubtypeDeclaration,
@@ -94,7 +93,7 @@ fn check_subtyped(
     checker.subtyped(declaration).and(Ok(resolved))
 }
 
-#[tactic(auto, unfolding(crate::specs::Statements::of_attribute, vhdl_checker::specs::Progress::walk))]
+#[tactic(auto, unfolding(crate::specs::Statements::of_attribute, vhdl_names_checker::specs::Progress::walk))]
 fn check_attribute(
     checker: &mut Checker<'_>,
     declaration: &AttributeSpecification,

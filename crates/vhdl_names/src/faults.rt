@@ -6,15 +6,14 @@ ghost use Rattle.vhdl_names.specs.First.{earlier, IsFirst};
 ghost use Rattle.vhdl_names.specs.Resolved.{Resolved};
 ghost use Rattle.vhdl_names.specs.Units.{units_of};
 ghost use Rattle.vhdl_tree.specs.declared.units.DesignFile.{DesignFile};
-ghost use Rattle.vhdl_types.specs.declared.fault.Fault.{Fault};
+ghost use Rattle.vhdl_units.specs.declared.fault.Fault.{Fault};
 
 use crate::architectures::architectures;
 use crate::units::check_units;
 use std::alloc::{AllocError, Global};
-use vhdl_checker::Checker;
+use vhdl_names_checker::Checker;
 use vhdl_tree::DesignFile;
-use vhdl_types::Fault;
-use vhdl_units::Units;
+use vhdl_units::{Fault, Units};
 
 #[tactic(auto, unfolding(crate::specs::Static::is_before))]
 fn is_before(fault: &Fault, other: &Fault) -> bool

@@ -1,15 +1,15 @@
 //! Sequential statements, along a design file. The calls nest as deep as the statements do.
 
 ghost use Rattle.std.specs.Prelude.{◌≡◌, IfOk, OnOk, map};
-ghost use Rattle.vhdl_checker.specs.Progress.{walk};
+ghost use Rattle.vhdl_names_checker.specs.Progress.{walk};
 ghost use Rattle.vhdl_names.specs.Parts.{all_at, events_of, with_last};
 ghost use Rattle.vhdl_names.specs.Statements as spec;
-ghost use Rattle.vhdl_resolving.specs.Statements as resolved;
+ghost use Rattle.vhdl_names_resolving.specs.Statements as resolved;
 
 use sqlite_items::Items;
 use std::alloc::AllocError;
-use vhdl_checker::Checker;
-use vhdl_resolving::{
+use vhdl_names_checker::Checker;
+use vhdl_names_resolving::{
     assertion_resolved, assignment_resolved, choices_resolved, jump_resolved, label_here,
     report_resolved, scheme_resolved, subject_resolved, value_at, variable_resolved, wait_resolved,
 };
@@ -18,10 +18,9 @@ use vhdl_tree::{
     Arm, Assertion, Body, Case, Choice, Elsif, Expr, If, Jump, Loop, Report, Scheme,
     SignalAssignment, Statement, VariableAssignment, Wait,
 };
-use vhdl_types::BaseType;
 use vhdl_units::{
-    ChoiceValue, Declared, ResolvedArm, ResolvedBody, ResolvedCase, ResolvedElsif, ResolvedIf,
-    ResolvedLoop, ResolvedScheme, ResolvedStatement, Value,
+    BaseType, ChoiceValue, Declared, ResolvedArm, ResolvedBody, ResolvedCase, ResolvedElsif,
+    ResolvedIf, ResolvedLoop, ResolvedScheme, ResolvedStatement, Value,
 };
 
 /// What a condition means here.
@@ -61,7 +60,7 @@ fn scheme(checker: &Checker<'_>, scheme: &Scheme) -> Result<ResolvedScheme, Allo
 
 // ---- labels
 
-#[tactic(auto, unfolding(crate::specs::Statements::label_events, vhdl_checker::specs::Progress::walk))]
+#[tactic(auto, unfolding(crate::specs::Statements::label_events, vhdl_names_checker::specs::Progress::walk))]
 fn declare_label(checker: &mut Checker<'_>, label: &Option<Token>) -> Result<(), AllocError>
     ensures { OnOk result (checker.new ≡ walk (spec.label_events label.now) checker.old) }
 {
@@ -86,7 +85,7 @@ pub(crate) fn check_label(
 
 // ---- statements without others in them
 
-#[tactic(auto, unfolding(crate::specs::Statements::of_wait, vhdl_checker::specs::Progress::walk))]
+#[tactic(auto, unfolding(crate::specs::Statements::of_wait, vhdl_names_checker::specs::Progress::walk))]
 fn check_wait(checker: &mut Checker<'_>, statement: &Wait) -> Result<ResolvedBody, AllocError>
     ensures walk { OnOk result (checker.new ≡ walk (spec.of_wait statement.now).events checker.old) }
     ensures meaning { IfOk result (λ v. v ≡ (spec.of_wait statement.now).at checker.old) }
@@ -97,7 +96,7 @@ fn check_wait(checker: &mut Checker<'_>, statement: &Wait) -> Result<ResolvedBod
         .and(Ok(ResolvedBody::Wait(resolved)))
 }
 
-#[tactic(auto, unfolding(crate::specs::Statements::of_assertion, vhdl_checker::specs::Progress::walk))]
+#[tactic(auto, unfolding(crate::specs::Statements::of_assertion, vhdl_names_checker::specs::Progress::walk))]
 fn check_assertion(
     checker: &mut Checker<'_>,
     statement: &Assertion,
@@ -116,7 +115,7 @@ fn check_assertion(
         .and(Ok(ResolvedBody::Assert(resolved)))
 }
 
-#[tactic(auto, unfolding(crate::specs::Statements::of_report, vhdl_checker::specs::Progress::walk))]
+#[tactic(auto, unfolding(crate::specs::Statements::of_report, vhdl_names_checker::specs::Progress::walk))]
 fn check_report(checker: &mut Checker<'_>, statement: &Report) -> Result<ResolvedBody, AllocError>
     ensures walk { OnOk result (checker.new ≡ walk (spec.of_report statement.now).events checker.old) }
     ensures meaning { IfOk result (λ v. v ≡ (spec.of_report statement.now).at checker.old) }
@@ -127,7 +126,7 @@ fn check_report(checker: &mut Checker<'_>, statement: &Report) -> Result<Resolve
         .and(Ok(ResolvedBody::Report(resolved)))
 }
 
-#[tactic(auto, unfolding(crate::specs::Statements::of_assignment, vhdl_checker::specs::Progress::walk))]
+#[tactic(auto, unfolding(crate::specs::Statements::of_assignment, vhdl_names_checker::specs::Progress::walk))]
 fn check_assignment(
     checker: &mut Checker<'_>,
     statement: &SignalAssignment,
@@ -153,7 +152,7 @@ fn check_assignment(
 }
 
 // The event changes nothing that stands around.
-#[tactic(auto, unfolding(crate::specs::Statements::of_variable, vhdl_checker::specs::Progress::walk, vhdl_checker::specs::Progress::step, vhdl_checker::specs::After::after))]
+#[tactic(auto, unfolding(crate::specs::Statements::of_variable, vhdl_names_checker::specs::Progress::walk, vhdl_names_checker::specs::Progress::step, vhdl_names_checker::specs::After::after))]
 fn check_variable(
     checker: &mut Checker<'_>,
     statement: &VariableAssignment,
@@ -165,7 +164,7 @@ fn check_variable(
     variable_resolved(checker.alloc(), checker.text(), checker.around(), statement)
 }
 
-#[tactic(auto, unfolding(crate::specs::Statements::of_next, vhdl_checker::specs::Progress::walk))]
+#[tactic(auto, unfolding(crate::specs::Statements::of_next, vhdl_names_checker::specs::Progress::walk))]
 fn check_next(checker: &mut Checker<'_>, statement: &Jump) -> Result<ResolvedBody, AllocError>
     ensures walk { OnOk result (checker.new ≡ walk (spec.of_next statement.now).events checker.old) }
     ensures meaning { IfOk result (λ v. v ≡ (spec.of_next statement.now).at checker.old) }
@@ -176,7 +175,7 @@ fn check_next(checker: &mut Checker<'_>, statement: &Jump) -> Result<ResolvedBod
         .and(Ok(ResolvedBody::Next(resolved)))
 }
 
-#[tactic(auto, unfolding(crate::specs::Statements::of_exit, vhdl_checker::specs::Progress::walk))]
+#[tactic(auto, unfolding(crate::specs::Statements::of_exit, vhdl_names_checker::specs::Progress::walk))]
 fn check_exit(checker: &mut Checker<'_>, statement: &Jump) -> Result<ResolvedBody, AllocError>
     ensures walk { OnOk result (checker.new ≡ walk (spec.of_exit statement.now).events checker.old) }
     ensures meaning { IfOk result (λ v. v ≡ (spec.of_exit statement.now).at checker.old) }

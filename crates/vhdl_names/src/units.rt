@@ -2,9 +2,9 @@
 
 ghost use Rattle.std.specs.Prelude.{◌≡◌, IfOk, OnOk, map};
 ghost use Rattle.std.specs.List.{flat_map, list_all};
-ghost use Rattle.vhdl_checker.specs.After.{entity_number};
-ghost use Rattle.vhdl_checker.specs.Progress.{walk};
-ghost use Rattle.vhdl_scope.specs.Names.{word_in};
+ghost use Rattle.vhdl_names_checker.specs.After.{entity_number};
+ghost use Rattle.vhdl_names_checker.specs.Progress.{walk};
+ghost use Rattle.vhdl_names_scope.specs.Names.{word_in};
 ghost use Rattle.vhdl_tokens.specs.Meaning.{span};
 ghost use Rattle.vhdl_names.specs.Parts.{all_at, events_of};
 ghost use Rattle.vhdl_names.specs.Units as spec;
@@ -13,19 +13,18 @@ use crate::declarations::{check_declarations, check_objects};
 use crate::statements::{check_label, check_statements};
 use sqlite_items::Items;
 use std::alloc::AllocError;
-use vhdl_checker::{Checker, entity_number};
-use vhdl_resolving::{concurrent_resolved, instance_resolved, sensitivity_resolved, spelled};
-use vhdl_rules::is_word;
-use vhdl_scope::word;
+use vhdl_names_checker::{Checker, entity_number};
+use vhdl_names_resolving::{concurrent_resolved, instance_resolved, sensitivity_resolved, spelled};
+use vhdl_names_rules::is_word;
+use vhdl_names_scope::word;
 use vhdl_tokens::Token;
 use vhdl_tree::{
     Architecture, Concurrent, ConcurrentAssignment, ConcurrentBody, ContextClause, Declaration,
     DesignFile, DesignUnit, Entity, Generic, Instantiation, LibraryUnit, Port, Process,
     Sensitivity,
 };
-use vhdl_types::Class;
 use vhdl_units::{
-    ResolvedArchitecture, ResolvedConcurrent, ResolvedConcurrentBody, ResolvedEntity,
+    Class, ResolvedArchitecture, ResolvedConcurrent, ResolvedConcurrentBody, ResolvedEntity,
     ResolvedObjects, ResolvedProcess, ResolvedSensitivity, ResolvedUnit,
 };
 
@@ -41,7 +40,7 @@ fn is_listed(sensitivity: &Sensitivity) -> bool
     }
 }
 
-#[tactic(auto, unfolding(crate::specs::Units::sensitivity_events, vhdl_checker::specs::Progress::walk))]
+#[tactic(auto, unfolding(crate::specs::Units::sensitivity_events, vhdl_names_checker::specs::Progress::walk))]
 fn walk_sensitivity(checker: &mut Checker<'_>, sensitivity: &Sensitivity) -> Result<(), AllocError>
     ensures { OnOk result (checker.new ≡ walk (spec.sensitivity_events sensitivity.now) checker.old) }
 {
@@ -91,7 +90,7 @@ fn check_process(
 
 // ---- concurrent statements
 
-#[tactic(auto, unfolding(crate::specs::Units::of_assignment, vhdl_checker::specs::Progress::walk))]
+#[tactic(auto, unfolding(crate::specs::Units::of_assignment, vhdl_names_checker::specs::Progress::walk))]
 fn check_assignment(
     checker: &mut Checker<'_>,
     statement: &ConcurrentAssignment,
@@ -116,7 +115,7 @@ fn check_assignment(
         .and(Ok(ResolvedConcurrentBody::Assignment(resolved)))
 }
 
-#[tactic(auto, unfolding(crate::specs::Units::of_instance, vhdl_checker::specs::Progress::walk))]
+#[tactic(auto, unfolding(crate::specs::Units::of_instance, vhdl_names_checker::specs::Progress::walk))]
 fn check_instance(
     checker: &mut Checker<'_>,
     instance: &Instantiation,
@@ -344,7 +343,7 @@ fn check_architecture(
 
 // ---- units
 
-#[tactic(auto, unfolding(crate::specs::Units::of_context, vhdl_checker::specs::Progress::walk))]
+#[tactic(auto, unfolding(crate::specs::Units::of_context, vhdl_names_checker::specs::Progress::walk))]
 fn check_context_clause(checker: &mut Checker<'_>, clause: &ContextClause) -> Result<(), AllocError>
     ensures { OnOk result (checker.new ≡ walk (spec.of_context clause.now) checker.old) }
 {

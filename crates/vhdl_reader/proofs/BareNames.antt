@@ -14,9 +14,9 @@ use Rattle.vhdl_tree.specs.declared.expressions.Link.{Link}
 use Rattle.vhdl_tree.specs.Words.{Span, tok, id, kind_of, place_of}
 use Rattle.vhdl_tree.specs.Lists.{Many, Operations}
 use Rattle.vhdl_tree.specs.Expressions.{link_of, name_of, SimpleWithin, Expression, NameOf, IsName, IsPrimary, IsFactor, IsTerm, IsSigned, IsSimple, IsRelation, IsExpression}
-use Rattle.vhdl_expressions.specs.Reading as expressions
-use Rattle.vhdl_expressions.specs.Reading.{Layer}
-use Rattle.vhdl_expressions.proofs.NamedBounds.{name_in, as_name, chain_opens, literal_opens, within_name}
+use Rattle.vhdl_reader_expressions.specs.Reading as expressions
+use Rattle.vhdl_reader_expressions.specs.Reading.{Layer}
+use Rattle.vhdl_reader_expressions.proofs.NamedBounds.{name_in, as_name, chain_opens, literal_opens, within_name}
 use Rattle.vhdl_reader.specs.Reading as spec
 use Rattle.vhdl_reader.specs.Reading.{formal_of}
 

@@ -9,7 +9,7 @@ use Rattle.vhdl_tree.specs.declared.units.ConcurrentBody.{ConcurrentBody}
 use Rattle.vhdl_tree.specs.declared.units.ConcurrentBody.TheVariants as a_body
 use Rattle.vhdl_tree.specs.Words.{Span, id, mark}
 use Rattle.vhdl_tree.specs.Units.{IsLabel, IsPostponed, IsProcess, IsConcurrentAssignment, IsInstantiation, IsConcurrent, concurrent_of}
-use Rattle.vhdl_cursor.proofs.Sound.{placed}
+use Rattle.vhdl_reader_expressions.proofs.Sound.{placed}
 
 -- a process or an assignment, which is postponed or not
 pub data IsBodyOf (postponed : Bool) : List Token → ConcurrentBody → List Token → Type 0 where

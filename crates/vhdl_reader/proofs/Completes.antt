@@ -15,16 +15,16 @@ use Rattle.vhdl_tree.specs.Words.{Span, id, word, mark, kind_of}
 use Rattle.vhdl_tree.specs.Lists.{Many, Perhaps, IsOptional}
 use Rattle.vhdl_tree.specs.Expressions.{Expression}
 use Rattle.vhdl_tree.specs.Units.{IsPostponed, IsSensitivity, IsProcess, IsAlternative, IsConcurrentAssignment}
-use Rattle.vhdl_cursor.specs.Kinds.{same, same_word}
-use Rattle.vhdl_cursor.specs.Steps.{Found, sees, ◌>>=◌, pure, on}
-use Rattle.vhdl_cursor.proofs.Complete.{Reaches, bind_up, pure_up, spent_up, on_hit, on_miss, word_up, token_up, optional_up}
-use Rattle.vhdl_expressions.specs.Reading.{begins_name, expression_within}
-use Rattle.vhdl_expressions.proofs.Begins.{unseen}
-use Rattle.vhdl_expressions.proofs.Reached.{expression_reached, name_from_reached}
-use Rattle.vhdl_statements.specs.Reading.{waveform_within}
-use Rattle.vhdl_statements.proofs.Follow.{unlike_unseen, waveform_starts}
-use Rattle.vhdl_statements.proofs.Reached.{delay_reached, waveform_reached, names_reached, statements_reached}
-use Rattle.vhdl_declarations.proofs.Completes.{process_declarations_complete}
+use Rattle.vhdl_reader_expressions.specs.Kinds.{same, same_word}
+use Rattle.vhdl_reader_expressions.specs.Steps.{Found, sees, ◌>>=◌, pure, on}
+use Rattle.vhdl_reader_expressions.proofs.Complete.{Reaches, bind_up, pure_up, spent_up, on_hit, on_miss, word_up, token_up, optional_up}
+use Rattle.vhdl_reader_expressions.specs.Reading.{begins_name, expression_within}
+use Rattle.vhdl_reader_expressions.proofs.Begins.{unseen}
+use Rattle.vhdl_reader_expressions.proofs.Reached.{expression_reached, name_from_reached}
+use Rattle.vhdl_reader_statements.specs.Reading.{waveform_within}
+use Rattle.vhdl_reader_statements.proofs.Follow.{unlike_unseen, waveform_starts}
+use Rattle.vhdl_reader_statements.proofs.Reached.{delay_reached, waveform_reached, names_reached, statements_reached}
+use Rattle.vhdl_reader_declarations.proofs.Completes.{process_declarations_complete}
 use Rattle.vhdl_reader.specs.Reading.{sensitivity_names, sensitivity_all, sensitivity_list, sensitivity, process_head, process_end, process, conditions_from, assignment_to, assignment_from, assignment, process_or_assignment, body}
 use Rattle.vhdl_reader.proofs.Bodies.{IsBodyOf, IsBody}
 use Rattle.vhdl_reader.proofs.Follow.{EndsConditions, optional_unseen, conditions_ends, opens_process, declarations_open, names_start, Named, name_names}

@@ -11,9 +11,9 @@ use Rattle.vhdl_tree.specs.declared.units.ConcurrentBody.TheVariants as a_body
 use Rattle.vhdl_tree.specs.declared.units.Concurrent.{Concurrent}
 use Rattle.vhdl_tree.specs.Words.{Span, id, mark, kind_of, line_of}
 use Rattle.vhdl_tree.specs.Units.{IsPostponed, IsProcess, IsConcurrentAssignment, IsInstantiation, IsLabel, IsConcurrent, concurrent_of}
-use Rattle.vhdl_cursor.specs.Steps.{Found, sees, ◌>>=◌, pure}
-use Rattle.vhdl_cursor.proofs.Complete.{Reaches, Complete, Anything, bind_up, pure_up, on_hit, on_miss, look_up, on_line_up, token_up}
-use Rattle.vhdl_expressions.proofs.Begins.{unseen}
+use Rattle.vhdl_reader_expressions.specs.Steps.{Found, sees, ◌>>=◌, pure}
+use Rattle.vhdl_reader_expressions.proofs.Complete.{Reaches, Complete, Anything, bind_up, pure_up, on_hit, on_miss, look_up, on_line_up, token_up}
+use Rattle.vhdl_reader_expressions.proofs.Begins.{unseen}
 use Rattle.vhdl_reader.specs.Reading as spec
 use Rattle.vhdl_reader.specs.Reading.{is_identifier, begins_concurrent, assignment_from, instance, body, labelled, named_after, named, unlabelled, concurrent}
 use Rattle.vhdl_reader.proofs.Bodies.{IsBodyOf, IsBody, IsLabelled}

@@ -18,15 +18,15 @@ use Rattle.vhdl_tree.specs.Expressions.{SimpleWithin, Expression, NameOf, IsPart
 use Rattle.vhdl_tree.specs.Declarations.{IsVariable, IsType, IsSubtypeDeclaration, IsConstant, IsProcessDeclaration}
 use Rattle.vhdl_tree.specs.Statements.{IsNames}
 use Rattle.vhdl_tree.specs.Units.{IsAlternative, IsArchitectureName, IsMap}
-use Rattle.vhdl_cursor.specs.Kinds.{same}
-use Rattle.vhdl_cursor.specs.Steps.{sees}
-use Rattle.vhdl_cursor.proofs.Complete.{many_ends}
-use Rattle.vhdl_expressions.specs.Reading.{begins_name, begins_part}
-use Rattle.vhdl_expressions.proofs.Begins.{begins_expression}
-use Rattle.vhdl_expressions.proofs.Follow.{rank}
-use Rattle.vhdl_expressions.proofs.Reached.{name_starts}
-use Rattle.vhdl_statements.proofs.Follow.{Unlike, unlike_unseen, EndsWaveform, perhaps_ends}
-use Rattle.vhdl_declarations.specs.Reading.{begins_process_declaration}
+use Rattle.vhdl_reader_expressions.specs.Kinds.{same}
+use Rattle.vhdl_reader_expressions.specs.Steps.{sees}
+use Rattle.vhdl_reader_expressions.proofs.Complete.{many_ends}
+use Rattle.vhdl_reader_expressions.specs.Reading.{begins_name, begins_part}
+use Rattle.vhdl_reader_expressions.proofs.Begins.{begins_expression}
+use Rattle.vhdl_reader_expressions.proofs.Follow.{rank}
+use Rattle.vhdl_reader_expressions.proofs.Reached.{name_starts}
+use Rattle.vhdl_reader_statements.proofs.Follow.{Unlike, unlike_unseen, EndsWaveform, perhaps_ends}
+use Rattle.vhdl_reader_declarations.specs.Reading.{begins_process_declaration}
 use Rattle.vhdl_reader.specs.Reading.{is_open}
 
 -- behind the conditions of an assignment

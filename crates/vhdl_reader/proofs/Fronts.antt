@@ -16,16 +16,16 @@ use Rattle.vhdl_tree.specs.Lists.{Many, Preceded, Separated, Perhaps, IsOptional
 use Rattle.vhdl_tree.specs.Expressions.{Expression, NameOf}
 use Rattle.vhdl_tree.specs.Statements.{StatementsOf}
 use Rattle.vhdl_tree.specs.Units.{IsPostponed, IsSensitivity, IsProcess, IsAlternative, IsConcurrentAssignment, IsFormal, IsActual, IsAssociation, IsAssociations, IsMap, IsLibrary, IsArchitectureName, IsInstantiation, IsLabel, IsConcurrent}
-use Rattle.vhdl_cursor.specs.Steps.{Answer, Found, Stopped, Spent}
-use Rattle.vhdl_cursor.proofs.Sound.{reads, placed}
-use Rattle.vhdl_cursor.proofs.SoundLists.{many_snoc, separated_snoc}
-use Rattle.vhdl_cursor.proofs.Fronts.{Front, State, Holds, Leads, LeadsTo, LeadsFrom, Some_of, Viable, none_before, one_before, somewhere, same_front, start_f, call_f, bind_f, pure_f, spent_f, known_f, before_f, after_f, on_f, look_f, on_line_f, word_f, token_f, optional_viable}
-use Rattle.vhdl_cursor.proofs.FrontLists.{preceded_loop_f}
-use Rattle.vhdl_expressions.specs.Reading.{Layer, expression_within}
-use Rattle.vhdl_expressions.proofs.Read.{expression_read, expression_goes_on, name_from_goes_on}
-use Rattle.vhdl_expressions.proofs.NamedBounds.{name_in, literal_opens}
-use Rattle.vhdl_statements.proofs.Read.{delay_goes_on, waveform_goes_on, names_go_on, statements_go_on}
-use Rattle.vhdl_declarations.proofs.Fronts.{process_declarations_viable}
+use Rattle.vhdl_reader_expressions.specs.Steps.{Answer, Found, Stopped, Spent}
+use Rattle.vhdl_reader_expressions.proofs.Sound.{reads, placed}
+use Rattle.vhdl_reader_expressions.proofs.SoundLists.{many_snoc, separated_snoc}
+use Rattle.vhdl_reader_expressions.proofs.FrontSteps.{Front, State, Holds, Leads, LeadsTo, LeadsFrom, Some_of, Viable, none_before, one_before, somewhere, same_front, start_f, call_f, bind_f, pure_f, spent_f, known_f, before_f, after_f, on_f, look_f, on_line_f, word_f, token_f, optional_viable}
+use Rattle.vhdl_reader_expressions.proofs.FrontLists.{preceded_loop_f}
+use Rattle.vhdl_reader_expressions.specs.Reading.{Layer, expression_within}
+use Rattle.vhdl_reader_expressions.proofs.Read.{expression_read, expression_goes_on, name_from_goes_on}
+use Rattle.vhdl_reader_expressions.proofs.NamedBounds.{name_in, literal_opens}
+use Rattle.vhdl_reader_statements.proofs.Read.{delay_goes_on, waveform_goes_on, names_go_on, statements_go_on}
+use Rattle.vhdl_reader_declarations.proofs.Fronts.{process_declarations_viable}
 use Rattle.vhdl_reader.specs.declared.assignments.Conditions.{Conditions}
 use Rattle.vhdl_reader.specs.Reading as spec
 use Rattle.vhdl_reader.specs.Reading.{formal_of, sensitivity_names, sensitivity_all, sensitivity_list, sensitivity, process_head, process_end, process, conditions_from, assignment_to, assignment_from, assignment, actual, named_actual, association_after, association_from, open_association, association, associations, map_list, map_of, bracketed_identifier, architecture_name, instance_of, instance_in, instance_after, instance, process_or_assignment, body, labelled, named_after, named, unlabelled, concurrent}

@@ -18,11 +18,11 @@ use Rattle.vhdl_tree.specs.Words.{Span, id, word, mark, kind_of}
 use Rattle.vhdl_tree.specs.Lists.{Many, Operations}
 use Rattle.vhdl_tree.specs.Expressions.{name_of, Expression, NameOf, IsName, IsRelation, IsExpression}
 use Rattle.vhdl_tree.specs.Units.{IsFormal, IsActual, IsAssociation, IsAssociations, IsMap, IsLibrary, IsArchitectureName, IsInstantiation}
-use Rattle.vhdl_cursor.specs.Kinds.{same, same_word, same_delimiter}
-use Rattle.vhdl_cursor.specs.Steps.{Found, sees}
-use Rattle.vhdl_cursor.proofs.Complete.{Reaches, Complete, bind_up, pure_up, on_hit, on_miss, look_up, word_up, token_up, separated_up}
-use Rattle.vhdl_expressions.proofs.Reached.{expression_reached, expression_starts, name_is_simple}
-use Rattle.vhdl_statements.proofs.Follow.{unlike_unseen}
+use Rattle.vhdl_reader_expressions.specs.Kinds.{same, same_word, same_delimiter}
+use Rattle.vhdl_reader_expressions.specs.Steps.{Found, sees}
+use Rattle.vhdl_reader_expressions.proofs.Complete.{Reaches, Complete, bind_up, pure_up, on_hit, on_miss, look_up, word_up, token_up, separated_up}
+use Rattle.vhdl_reader_expressions.proofs.Reached.{expression_reached, expression_starts, name_is_simple}
+use Rattle.vhdl_reader_statements.proofs.Follow.{unlike_unseen}
 use Rattle.vhdl_reader.specs.Reading as spec
 use Rattle.vhdl_reader.specs.Reading.{is_open, is_identifier, formal_of, actual, named_actual, association_after, association_from, open_association, association, associations, map_list, map_of, bracketed_identifier, architecture_name, instance_of, instance_in, instance_after, instance}
 use Rattle.vhdl_reader.proofs.BareNames.{alone_opens}

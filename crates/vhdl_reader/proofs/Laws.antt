@@ -6,11 +6,11 @@ use Rattle.vhdl_tokens.specs.declared.reserved.Reserved.TheVariants as reserved
 use Rattle.vhdl_tree.specs.declared.expressions.Expr.{Expr}
 use Rattle.vhdl_tree.specs.declared.expressions.Name.{Name}
 use Rattle.vhdl_tree.specs.declared.units.Alternative.{Alternative}
-use Rattle.vhdl_cursor.proofs.Local.{Law, law_down, bind_law, pure_law, stop_law, spent_law, on_line_law, look_law, on_law, on_enter, word_law, token_law, optional_law}
-use Rattle.vhdl_cursor.proofs.Loops.{Moves, always, on_moves, stop_moves, look_moves, on_line_moves, bind_moves, behind_moves, word_moves, token_moves, many_law, preceded_law}
-use Rattle.vhdl_expressions.proofs.Bounded.{expression_bounded, name_from_bounded}
-use Rattle.vhdl_statements.proofs.Bounded.{delay_bounded, waveform_bounded, names_bounded, statements_bounded}
-use Rattle.vhdl_declarations.proofs.Laws.{identifiers_law, declarations_law, process_declarations_law, entity_law, entity_moves}
+use Rattle.vhdl_reader_expressions.proofs.Local.{Law, law_down, bind_law, pure_law, stop_law, spent_law, on_line_law, look_law, on_law, on_enter, word_law, token_law, optional_law}
+use Rattle.vhdl_reader_expressions.proofs.Loops.{Moves, always, on_moves, stop_moves, look_moves, on_line_moves, bind_moves, behind_moves, word_moves, token_moves, many_law, preceded_law}
+use Rattle.vhdl_reader_expressions.proofs.Bounded.{expression_bounded, name_from_bounded}
+use Rattle.vhdl_reader_statements.proofs.Bounded.{delay_bounded, waveform_bounded, names_bounded, statements_bounded}
+use Rattle.vhdl_reader_declarations.proofs.Laws.{identifiers_law, declarations_law, process_declarations_law, entity_law, entity_moves}
 use Rattle.vhdl_reader.specs.Reading as spec
 use Rattle.vhdl_reader.specs.Reading.{formal_of, sensitivity_names, sensitivity_all, sensitivity_list, sensitivity, process_head, process_end, process, conditions_from, assignment_to, assignment_from, assignment, actual, named_actual, association_after, association_from, open_association, association, associations, map_list, map_of, bracketed_identifier, architecture_name, instance_of, instance_in, instance_after, instance, process_or_assignment, body, labelled, named_after, named, unlabelled, concurrent, architecture_head, architecture_of, architecture_body, architecture_end, architecture, suffix, prefix, use_clause, library_clause, context, library_unit, unit, design_file}
 

@@ -4,10 +4,10 @@ use Rattle.vhdl_tokens.specs.declared.token.Token.{Token}
 use Rattle.vhdl_tree.specs.declared.units.DesignFile.{DesignFile}
 use Rattle.vhdl_tree.specs.Units.{Sentence, IsDesignFile}
 use Rattle.vhdl_tree.specs.Faults.{IsSyntaxFault}
-use Rattle.vhdl_cursor.specs.declared.stop.Stop.{Stop}
-use Rattle.vhdl_cursor.specs.declared.stop.Stop.TheVariants as stops
-use Rattle.vhdl_cursor.specs.Steps.{Found, Stopped, Reads, whole}
-use Rattle.vhdl_cursor.proofs.Whole.{whole_found, whole_spends, whole_stops, whole_begins, one_whole, whole_is}
+use Rattle.vhdl_reader_expressions.specs.declared.stop.Stop.{Stop}
+use Rattle.vhdl_reader_expressions.specs.declared.stop.Stop.TheVariants as stops
+use Rattle.vhdl_reader_expressions.specs.Steps.{Found, Stopped, Reads, whole}
+use Rattle.vhdl_reader_expressions.proofs.Whole.{whole_found, whole_spends, whole_stops, whole_begins, one_whole, whole_is}
 use Rattle.vhdl_reader.specs.declared.error.SyntaxError.{SyntaxError}
 use Rattle.vhdl_reader.specs.Reading.{design_file}
 use Rattle.vhdl_reader.specs.Judgement.{Parses, Gives, error_at}

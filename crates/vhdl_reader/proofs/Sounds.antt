@@ -15,12 +15,12 @@ use Rattle.vhdl_tree.specs.Lists.{Many, Preceded, Separated, Perhaps, IsOptional
 use Rattle.vhdl_tree.specs.Expressions.{Expression, NameOf}
 use Rattle.vhdl_tree.specs.Statements.{StatementsOf}
 use Rattle.vhdl_tree.specs.Units.{IsPostponed, IsSensitivity, IsProcess, IsAlternative, IsConcurrentAssignment, IsFormal, IsActual, IsAssociation, IsAssociations, IsMap, IsLibrary, IsArchitectureName, IsInstantiation, IsLabel, IsConcurrent}
-use Rattle.vhdl_cursor.proofs.Sound.{Triple, Sound, start_t, call_t, bind_t, pure_t, spent_t, on_t, on_line_start, word_t, token_t, before_t, after_t, frame_t, placed, look_t, optional_sound}
-use Rattle.vhdl_cursor.proofs.SoundLists.{many_snoc, preceded_loop, separated_snoc}
-use Rattle.vhdl_expressions.proofs.Read.{expression_read, name_from_read}
-use Rattle.vhdl_statements.proofs.Read.{delay_read, waveform_read, names_read, statements_read}
+use Rattle.vhdl_reader_expressions.proofs.Sound.{Triple, Sound, start_t, call_t, bind_t, pure_t, spent_t, on_t, on_line_start, word_t, token_t, before_t, after_t, frame_t, placed, look_t, optional_sound}
+use Rattle.vhdl_reader_expressions.proofs.SoundLists.{many_snoc, preceded_loop, separated_snoc}
+use Rattle.vhdl_reader_expressions.proofs.Read.{expression_read, name_from_read}
+use Rattle.vhdl_reader_statements.proofs.Read.{delay_read, waveform_read, names_read, statements_read}
 use Rattle.vhdl_reader.specs.declared.assignments.Conditions.{Conditions}
-use Rattle.vhdl_declarations.proofs.Sounds.{process_declarations_sound}
+use Rattle.vhdl_reader_declarations.proofs.Sounds.{process_declarations_sound}
 use Rattle.vhdl_reader.specs.Reading as spec
 use Rattle.vhdl_reader.specs.Reading.{formal_of, sensitivity_names, sensitivity_all, sensitivity_list, sensitivity, process_head, process_end, process, conditions_from, assignment_to, assignment_from, assignment, actual, named_actual, association_after, association_from, open_association, association, associations, map_list, map_of, bracketed_identifier, architecture_name, instance_of, instance_in, instance_after, instance, process_or_assignment, body, labelled, named_after, named, unlabelled, concurrent}
 use Rattle.vhdl_reader.proofs.BareNames.{IsBare, formal_found, formal_unfound}

@@ -13,10 +13,10 @@ use Rattle.vhdl_tree.specs.Words.{Span, word, mark, kind_of}
 use Rattle.vhdl_tree.specs.Lists.{Many, IsOptional}
 use Rattle.vhdl_tree.specs.Declarations.{IsEntity}
 use Rattle.vhdl_tree.specs.Units.{IsArchitecture, IsSuffix, IsContext, IsLibraryUnit, IsDesignUnit, IsDesignFile}
-use Rattle.vhdl_cursor.specs.Kinds.{same, same_word, same_delimiter}
-use Rattle.vhdl_cursor.specs.Steps.{Found}
-use Rattle.vhdl_cursor.proofs.Complete.{Reaches, Complete, Anything, bind_up, pure_up, on_hit, on_miss, look_up, on_line_up, word_up, token_up, optional_up, many_up}
-use Rattle.vhdl_declarations.proofs.Completes.{identifiers_up, declarations_complete, entity_complete}
+use Rattle.vhdl_reader_expressions.specs.Kinds.{same, same_word, same_delimiter}
+use Rattle.vhdl_reader_expressions.specs.Steps.{Found}
+use Rattle.vhdl_reader_expressions.proofs.Complete.{Reaches, Complete, Anything, bind_up, pure_up, on_hit, on_miss, look_up, on_line_up, word_up, token_up, optional_up, many_up}
+use Rattle.vhdl_reader_declarations.proofs.Completes.{identifiers_up, declarations_complete, entity_complete}
 use Rattle.vhdl_reader.specs.Reading as spec
 use Rattle.vhdl_reader.specs.Reading.{is_all, is_entity, begins_concurrent, begins_context, begins_unit, architecture_head, architecture_of, architecture_body, architecture_end, architecture, suffix, prefix, use_clause, library_clause, context, library_unit, unit, design_file}
 use Rattle.vhdl_reader.proofs.Follow.{optional_unseen}

@@ -10,11 +10,11 @@ use Rattle.vhdl_tree.specs.declared.units.DesignFile.{DesignFile}
 use Rattle.vhdl_tree.specs.Words.{Span, id, word, mark, kind_of}
 use Rattle.vhdl_tree.specs.Lists.{Many, Separated, Preceded, IsToken}
 use Rattle.vhdl_tree.specs.Units.{IsConcurrent, IsArchitecture, IsSuffix, IsContext, IsLibraryUnit, IsDesignUnit, IsDesignFile}
-use Rattle.vhdl_cursor.proofs.Sound.{placed}
-use Rattle.vhdl_cursor.proofs.Fronts.{LeadsTo, LeadsFrom, Some_of, Viable, one_before, ◌then◌, somewhere, start_f, call_f, bind_f, pure_f, stop_f, known_f, before_f, after_f, on_f, look_f, on_line_f, word_f, token_f, kept_f, optional_viable}
-use Rattle.vhdl_cursor.proofs.FrontLists.{many_viable, many_loop_f}
-use Rattle.vhdl_cursor.proofs.SoundLists.{many_snoc}
-use Rattle.vhdl_declarations.proofs.Fronts.{identifiers_viable, declarations_viable, entity_viable}
+use Rattle.vhdl_reader_expressions.proofs.Sound.{placed}
+use Rattle.vhdl_reader_expressions.proofs.FrontSteps.{LeadsTo, LeadsFrom, Some_of, Viable, one_before, ◌then◌, somewhere, start_f, call_f, bind_f, pure_f, stop_f, known_f, before_f, after_f, on_f, look_f, on_line_f, word_f, token_f, kept_f, optional_viable}
+use Rattle.vhdl_reader_expressions.proofs.FrontLists.{many_viable, many_loop_f}
+use Rattle.vhdl_reader_expressions.proofs.SoundLists.{many_snoc}
+use Rattle.vhdl_reader_declarations.proofs.Fronts.{identifiers_viable, declarations_viable, entity_viable}
 use Rattle.vhdl_reader.specs.Reading as spec
 use Rattle.vhdl_reader.specs.Reading.{architecture_head, architecture_of, architecture_body, architecture_end, architecture, suffix, prefix, use_clause, library_clause, context, library_unit, unit, design_file}
 use Rattle.vhdl_reader.proofs.Fronts.{concurrent_viable}

@@ -13,9 +13,9 @@ use Rattle.vhdl_tree.specs.Words.{Span, id, word, mark, kind_of, line_of}
 use Rattle.vhdl_tree.specs.Lists.{Many, IsOptional}
 use Rattle.vhdl_tree.specs.Declarations.{IsDeclaration}
 use Rattle.vhdl_tree.specs.Units.{IsConcurrent, IsArchitecture, IsSuffix, IsContext, IsLibraryUnit, IsDesignUnit, IsDesignFile}
-use Rattle.vhdl_cursor.proofs.Sound.{Triple, Sound, start_t, call_t, bind_t, pure_t, stop_t, on_t, on_line_start, word_t, token_t, kept_t, before_t, after_t, placed, look_t, optional_sound}
-use Rattle.vhdl_cursor.proofs.SoundLists.{many_sound, many_loop, many_snoc}
-use Rattle.vhdl_declarations.proofs.Sounds.{identifiers_sound, declarations_sound, entity_sound}
+use Rattle.vhdl_reader_expressions.proofs.Sound.{Triple, Sound, start_t, call_t, bind_t, pure_t, stop_t, on_t, on_line_start, word_t, token_t, kept_t, before_t, after_t, placed, look_t, optional_sound}
+use Rattle.vhdl_reader_expressions.proofs.SoundLists.{many_sound, many_loop, many_snoc}
+use Rattle.vhdl_reader_declarations.proofs.Sounds.{identifiers_sound, declarations_sound, entity_sound}
 use Rattle.vhdl_reader.specs.Reading as spec
 use Rattle.vhdl_reader.specs.Reading.{architecture_head, architecture_of, architecture_body, architecture_end, architecture, suffix, prefix, use_clause, library_clause, context, library_unit, unit, design_file}
 use Rattle.vhdl_reader.proofs.Sounds.{concurrent_sound}

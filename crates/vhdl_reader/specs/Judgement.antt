@@ -4,8 +4,8 @@ use Rattle.vhdl_tokens.specs.declared.token.Token.{Token}
 use Rattle.vhdl_tree.specs.declared.units.DesignFile.{DesignFile}
 use Rattle.vhdl_tree.specs.Units.{Sentence}
 use Rattle.vhdl_tree.specs.Faults.{NestsWell, IsSyntaxFault, IsSyntaxRefusal, IsNestingRefusal}
-use Rattle.vhdl_cursor.specs.declared.stop.Stop.{Stop}
-use Rattle.vhdl_cursor.specs.declared.stop.Stop.TheVariants as stops
+use Rattle.vhdl_reader_expressions.specs.declared.stop.Stop.{Stop}
+use Rattle.vhdl_reader_expressions.specs.declared.stop.Stop.TheVariants as stops
 use Rattle.vhdl_reader.specs.declared.error.SyntaxError.{SyntaxError}
 use Rattle.vhdl_reader.specs.declared.error.SyntaxError.TheVariants as error
 

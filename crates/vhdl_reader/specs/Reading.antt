@@ -26,10 +26,10 @@ use Rattle.vhdl_tree.specs.declared.units.LibraryUnit.{LibraryUnit}
 use Rattle.vhdl_tree.specs.declared.units.LibraryUnit.TheVariants as a_unit
 use Rattle.vhdl_tree.specs.declared.units.DesignUnit.{DesignUnit}
 use Rattle.vhdl_tree.specs.declared.units.DesignFile.{DesignFile}
-use Rattle.vhdl_cursor.specs.Steps.{Parser, ◌>>=◌, ◌>>◌, pure, stop, spent, on, look, on_line, word, token, optional, many_from, preceded_from}
-use Rattle.vhdl_expressions.specs.Reading.{Layer, expression_within, name_from_within}
-use Rattle.vhdl_statements.specs.Reading.{delay_within, waveform_within, names_within, statements_within}
-use Rattle.vhdl_declarations.specs.Reading.{identifiers, declarations, process_declarations, entity}
+use Rattle.vhdl_reader_expressions.specs.Steps.{Parser, ◌>>=◌, ◌>>◌, pure, stop, spent, on, look, on_line, word, token, optional, many_from, preceded_from}
+use Rattle.vhdl_reader_expressions.specs.Reading.{Layer, expression_within, name_from_within}
+use Rattle.vhdl_reader_statements.specs.Reading.{delay_within, waveform_within, names_within, statements_within}
+use Rattle.vhdl_reader_declarations.specs.Reading.{identifiers, declarations, process_declarations, entity}
 use Rattle.vhdl_reader.specs.declared.assignments.Conditions.{Conditions}
 
 -- ---- what the next token is

@@ -1,13 +1,13 @@
 //! Architectures and context clauses (3.3, 12.4, 13.2).
 
 ghost use Rattle.std.specs.Prelude.{◌≡◌};
-ghost use Rattle.vhdl_cursor.specs.Steps.{Reads};
+ghost use Rattle.vhdl_reader_expressions.specs.Steps.{Reads};
 ghost use Rattle.vhdl_reader.specs.Reading as spec;
 
 use crate::tables::is_all;
 use crate::units::Units;
 use sqlite_items::Items;
-use vhdl_cursor::{Stop, Tokens};
+use vhdl_reader_expressions::{Stop, Tokens};
 use vhdl_tokens::{Delimiter, Kind, Reserved, Token};
 use vhdl_tree::{Architecture, Concurrent, ContextClause, Use};
 

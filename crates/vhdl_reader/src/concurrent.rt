@@ -1,13 +1,13 @@
 //! Concurrent statements (11.1).
 
 ghost use Rattle.std.specs.Prelude.{◌≡◌};
-ghost use Rattle.vhdl_cursor.specs.Steps.{Reads};
+ghost use Rattle.vhdl_reader_expressions.specs.Steps.{Reads};
 ghost use Rattle.vhdl_reader.specs.Reading as spec;
 
 use crate::tables::{begins_concurrent, is_identifier};
 use crate::units::Units;
 use sqlite_items::Items;
-use vhdl_cursor::{Stop, Tokens};
+use vhdl_reader_expressions::{Stop, Tokens};
 use vhdl_tokens::{Delimiter, Kind, Reserved, Token};
 use vhdl_tree::{Concurrent, ConcurrentBody};
 

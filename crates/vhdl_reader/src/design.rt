@@ -4,8 +4,8 @@ ghost use Rattle.std.specs.Prelude.{◌≡◌, ◌-◌, List};
 ghost use Rattle.vhdl_tree.specs.declared.units.DesignFile.{DesignFile};
 ghost use Rattle.vhdl_tree.specs.Units.{Sentence};
 ghost use Rattle.vhdl_tree.specs.Faults.{NestsWell, OneSyntaxFault};
-ghost use Rattle.vhdl_cursor.specs.declared.stop.Stop.TheVariants.{Bound};
-ghost use Rattle.vhdl_cursor.specs.Steps.{Reads, whole};
+ghost use Rattle.vhdl_reader_expressions.specs.declared.stop.Stop.TheVariants.{Bound};
+ghost use Rattle.vhdl_reader_expressions.specs.Steps.{Reads, whole};
 ghost use Rattle.vhdl_reader.specs.Judgement.{Judges, Parses, Gives, error_at, at_depth};
 ghost use Rattle.vhdl_reader.specs.Reading.{design_file};
 ghost use Rattle.vhdl_tokens.specs.declared.token.Token.{Token};
@@ -14,12 +14,12 @@ use crate::depth::first_deep;
 use crate::error::SyntaxError;
 use crate::units::Units;
 use std::alloc::Global;
-use vhdl_cursor::{Stop, Tokens};
+use vhdl_reader_expressions::{Stop, Tokens};
 use vhdl_tokens::Token;
 use vhdl_tree::DesignFile;
 
 // Reads a design file behind which nothing is left.
-#[tactic(auto, unfolding(vhdl_cursor::specs::Steps::whole))]
+#[tactic(auto, unfolding(vhdl_reader_expressions::specs::Steps::whole))]
 fn whole_file(alloc: Global, bound: usize, tokens: &mut Tokens<'_>) -> Result<DesignFile, Stop>
     ensures { Reads (whole (design_file bound) tokens.old) result tokens.new }
 {

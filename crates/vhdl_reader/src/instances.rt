@@ -2,13 +2,13 @@
 
 ghost use Rattle.std.specs.Prelude.{◌≡◌};
 ghost use Rattle.vhdl_tree.specs.declared.expressions.Name.{out-Name};
-ghost use Rattle.vhdl_cursor.specs.Steps.{Reads};
+ghost use Rattle.vhdl_reader_expressions.specs.Steps.{Reads};
 ghost use Rattle.vhdl_reader.specs.Reading as spec;
 
 use crate::tables::{is_identifier, is_open};
 use crate::units::Units;
 use sqlite_items::Items;
-use vhdl_cursor::{Stop, Tokens};
+use vhdl_reader_expressions::{Stop, Tokens};
 use vhdl_tokens::{Delimiter, Kind, Reserved, Token};
 use vhdl_tree::{Actual, Association, ConcurrentBody, Expr, Instantiation, Name};
 

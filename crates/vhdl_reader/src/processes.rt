@@ -1,11 +1,11 @@
 //! Processes (11.3).
 
 ghost use Rattle.std.specs.Prelude.{◌≡◌};
-ghost use Rattle.vhdl_cursor.specs.Steps.{Reads};
+ghost use Rattle.vhdl_reader_expressions.specs.Steps.{Reads};
 ghost use Rattle.vhdl_reader.specs.Reading as spec;
 
 use crate::units::Units;
-use vhdl_cursor::{Stop, Tokens};
+use vhdl_reader_expressions::{Stop, Tokens};
 use vhdl_tokens::{Delimiter, Kind, Reserved, Token};
 use vhdl_tree::{ConcurrentBody, Process, Sensitivity};
 

@@ -1,19 +1,18 @@
 //! The readers of the crates below, and the reader of design files.
 
 ghost use Rattle.std.specs.Prelude.{◌≡◌};
-ghost use Rattle.vhdl_cursor.specs.Steps.{Reads};
-ghost use Rattle.vhdl_expressions.specs.Reading.{expression_within, name_from_within};
-ghost use Rattle.vhdl_statements.specs.Reading.{delay_within, waveform_within, names_within, statements_within};
-ghost use Rattle.vhdl_declarations.specs.Reading as declarations;
+ghost use Rattle.vhdl_reader_expressions.specs.Steps.{Reads};
+ghost use Rattle.vhdl_reader_expressions.specs.Reading.{expression_within, name_from_within};
+ghost use Rattle.vhdl_reader_statements.specs.Reading.{delay_within, waveform_within, names_within, statements_within};
+ghost use Rattle.vhdl_reader_declarations.specs.Reading as declarations;
 ghost use Rattle.vhdl_reader.specs.Reading as spec;
 
 use crate::tables::{begins_context, begins_unit, is_entity};
 use sqlite_items::Items;
 use std::alloc::Global;
-use vhdl_cursor::{Stop, Tokens};
-use vhdl_declarations::Declarations;
-use vhdl_expressions::Readers;
-use vhdl_statements::Statements;
+use vhdl_reader_declarations::Declarations;
+use vhdl_reader_expressions::{Readers, Stop, Tokens};
+use vhdl_reader_statements::Statements;
 use vhdl_tokens::Token;
 use vhdl_tree::{
     ContextClause, Declaration, Delay, DesignFile, DesignUnit, Element, Entity, Expr, LibraryUnit,

@@ -1,8 +1,8 @@
 //! Declarations (IEEE Std 1076-2008, clauses 5 and 6).
 
 use crate::values::{RangeValue, Value};
+use crate::{BaseType, Class, Mark};
 use sqlite_items::Items;
-use vhdl_types::{BaseType, Class, Mark};
 
 /// What is declared: the number of its declaration, its name as it is written, and the line of that name,
 /// from 1.

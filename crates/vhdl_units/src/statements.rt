@@ -1,9 +1,9 @@
 //! Sequential statements (IEEE Std 1076-2008, clause 10).
 
+use crate::BaseType;
 use crate::declarations::Declared;
 use crate::values::{ChoiceValue, RangeValue, Value};
 use sqlite_items::Items;
-use vhdl_types::BaseType;
 
 /// A level of severity (10.3).
 #[derive(Clone, Copy, Debug, PartialEq, Eq)]

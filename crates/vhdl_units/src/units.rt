@@ -1,10 +1,10 @@
 //! Concurrent statements and design units (IEEE Std 1076-2008, clauses 3, 11 and 13).
 
+use crate::Object;
 use crate::declarations::{Declared, ResolvedDeclaration, ResolvedObjects};
 use crate::statements::{ResolvedDelay, ResolvedElement, ResolvedStatement};
 use crate::values::Value;
 use sqlite_items::Items;
-use vhdl_types::Object;
 
 /// What a process is sensitive to by its list (11.3).
 #[derive(Drop)]

@@ -1,8 +1,8 @@
 //! Expressions with their types, and names with what they denote (IEEE Std 1076-2008, clauses 8 and 9).
 
+use crate::{BaseType, Function, Object};
 use sqlite_items::{Boxed, Items};
 use vhdl_tree::{Direction, Operator, Unary};
-use vhdl_types::{BaseType, Function, Object};
 
 /// An attribute of an object (16.2): of a signal, or of an array.
 #[derive(Clone, Copy, Debug, PartialEq, Eq)]

@@ -4,3 +4,6 @@ pub mod Waveforms
 pub mod Tables
 pub mod Wired
 pub mod Sections
+pub mod Moves
+pub mod Determined
+pub mod Worked

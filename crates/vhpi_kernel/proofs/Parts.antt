@@ -5,7 +5,7 @@ use Rattle.std.proofs.lemmas.Bool.{and_parts}
 use Rattle.std.specs.List.{list_all}
 use Rattle.sim_design.specs.declared.Process.{Process}
 use Rattle.sim_waves.specs.Waveform.{Waveform, is_active, at_time}
-use Rattle.sim_cycle.specs.State.{ran, all_ran}
+use Rattle.vhpi_kernel.specs.State.{ran, all_ran}
 
 -- the list of waveforms whose first n have been advanced to the time now
 abbrev pub advanced_part : ℕ → ℕ → List Waveform → List Waveform

@@ -2,11 +2,11 @@ use Rattle.std.proofs.Common.{◌≡◌, ℕ, ◌<◌, List, [], ◌∷◌, ◌+
 use Rattle.std.proofs.lemmas.Bool.{lt-leb}
 use Rattle.sim_design.specs.declared.Design.{Design}
 use Rattle.sim_journal.specs.declared.Entry.{Entry}
-use Rattle.sim_cycle.specs.declared.Plan.{Plan}
-use Rattle.sim_cycle.specs.State.{State, Next, Update, events}
-use Rattle.sim_cycle.specs.Cycle.{Task, Tasks, moved_to, moved, cycle}
-use Rattle.sim_cycle.specs.Run.{end_at}
-use Rattle.sim_cycle.specs.World.{World, SectionDone, section}
+use Rattle.vhpi_kernel.specs.declared.Plan.{Plan}
+use Rattle.vhpi_kernel.specs.State.{State, Next, Update, events}
+use Rattle.vhpi_kernel.specs.Cycle.{Task, Tasks, moved_to, moved, cycle}
+use Rattle.vhpi_kernel.specs.Run.{end_at}
+use Rattle.vhpi_kernel.specs.Simulation.{Simulation, SectionDone, section}
 use Rattle.vhpi_kernel.specs.Kernel.{time_entry}
 
 -- no end applies before the limit where there is a next time
@@ -31,14 +31,14 @@ cycle_tasks d s next is =
       second = record { front = es; back = []; mid = u; whole = sym (append-nil es); first = (refl, refl); second = (refl, refl) };
     }
 
--- the world after a cycle
-abbrev cycled : World → ℕ → World
+-- the simulation after a cycle
+abbrev cycled : Simulation → ℕ → Simulation
 cycled w next = record w {
   state = Update w.design (moved_to next w.state);
   journal = (w.journal ++ time_entry (moved_to next w.state) ∷ []) ++ events (length w.design.nets) w.state.values (Update w.design (moved_to next w.state)).values;
 }
 
-cycled_done : (old : World) (next : ℕ) → old.ended ≡ None → old.tasks ≡ [] → Next old.state ≡ Some next → old.state.cycle < old.plan.limit → SectionDone old (cycled old next)
+cycled_done : (old : Simulation) (next : ℕ) → old.ended ≡ None → old.tasks ≡ [] → Next old.state ≡ Some next → old.state.cycle < old.plan.limit → SectionDone old (cycled old next)
 cycled_done old next running between is below =
     let t : State = moved_to next old.state in
     let u : State = Update old.design t in
@@ -53,9 +53,9 @@ cycled_done old next running between is below =
           ∙ ap (λ (ks : List Task). record old { state = u; journal = old.journal ++ (time_entry t ∷ es); tasks = ks }) between;
     }
 
-pub cycle_done : (old mid new : World) (next : ℕ) → old.ended ≡ None → old.tasks ≡ [] → Next old.state ≡ Some next → old.state.cycle < old.plan.limit →
+pub cycle_done : (old mid new : Simulation) (next : ℕ) → old.ended ≡ None → old.tasks ≡ [] → Next old.state ≡ Some next → old.state.cycle < old.plan.limit →
     mid ≡ record old { state = moved_to next old.state; journal = old.journal ++ time_entry (moved_to next old.state) ∷ [] } →
     new ≡ record mid { state = Update mid.design mid.state; journal = mid.journal ++ events (length mid.design.nets) mid.state.values (Update mid.design mid.state).values } → SectionDone old new
 cycle_done old mid new next running between is below e1 e2 =
-    let whole : new ≡ cycled old next = e2 ∙ ap (λ (w : World). record w { state = Update w.design w.state; journal = w.journal ++ events (length w.design.nets) w.state.values (Update w.design w.state).values }) e1 in
-    subst (λ (w : World). SectionDone old w) (sym whole) (cycled_done old next running between is below)
+    let whole : new ≡ cycled old next = e2 ∙ ap (λ (w : Simulation). record w { state = Update w.design w.state; journal = w.journal ++ events (length w.design.nets) w.state.values (Update w.design w.state).values }) e1 in
+    subst (λ (w : Simulation). SectionDone old w) (sym whole) (cycled_done old next running between is below)

@@ -8,7 +8,7 @@ use Rattle.sim_design.specs.declared.Design.{Design}
 use Rattle.sim_design.specs.declared.Process.{Process}
 use Rattle.sim_design.specs.Design.{is_target, have_own_targets}
 use Rattle.sim_waves.specs.Waveform.{Waveform, is_active}
-use Rattle.sim_cycle.specs.State.{sources, value_of, driving_value, is_sourced, default_at}
+use Rattle.vhpi_kernel.specs.State.{sources, value_of, driving_value, is_sourced, default_at}
 use Rattle.vhpi_kernel.specs.Index.{driver_of, noted_at, wave_at, value_by, active_by}
 
 noted_step : (c : Bool) (n : ℕ) → option_map suc (if◌then◌else◌ {A = Option ℕ} c (Some n) None) ≡ if◌then◌else◌ {A = Option ℕ} c (Some (suc n)) None

@@ -2,7 +2,7 @@ use Rattle.std.proofs.Common.{◌≡◌, ℕ, ℤ, pos, ◌+◌, ◌<◌, ◌≤
 use Rattle.std.proofs.Math.ListN.{get_or-append}
 use Rattle.std.proofs.lemmas.Bool.{cases_lt}
 use Rattle.sim_journal.specs.declared.Entry.{Entry}
-use Rattle.sim_cycle.specs.State.{table, value_at, events, event_of}
+use Rattle.vhpi_kernel.specs.State.{table, value_at, events, event_of}
 use Rattle.vhpi_kernel.specs.Index.{event_to, events_by}
 
 last_value : (vs : List ℤ) (v : ℤ) (n : ℕ) → length vs ≡ n → value_at (vs ++ v ∷ []) n ≡ v

@@ -4,7 +4,7 @@ use Rattle.std.specs.List.{list_all}
 use Rattle.sim_design.specs.declared.WaveformElement.{WaveformElement}
 use Rattle.sim_design.specs.Design.{is_waveform, is_ascending, ascends_above, is_in_time}
 use Rattle.sim_waves.specs.Waveform.{is_rising, rises_above}
-use Rattle.sim_cycle.specs.State.{transaction}
+use Rattle.vhpi_kernel.specs.State.{transaction}
 
 -- transactions rise as the delays of their waveform do
 rises : (now above : ℕ) (es : List WaveformElement) → ascends_above above es ≡ true → rises_above (now + above) (map (transaction now) es) ≡ true

@@ -7,7 +7,7 @@ use Rattle.sim_design.specs.declared.Design.{Design}
 use Rattle.sim_design.specs.declared.Process.{Process}
 use Rattle.sim_design.specs.Design.{is_process, is_waveform, have_own_targets, IsSound}
 use Rattle.sim_waves.specs.Waveform.{Waveform, is_active, at_time}
-use Rattle.sim_cycle.specs.State.{table, driving_value, updated_value, default_at, value_at, events}
+use Rattle.vhpi_kernel.specs.State.{table, driving_value, updated_value, default_at, value_at, events}
 use Rattle.vhpi_kernel.specs.Index.{driver_of, IsWithin, value_by, active_by, indexed_value, updated_value_by, events_by}
 use Rattle.vhpi_kernel.specs.Kernel.{IsWired}
 use Rattle.vhpi_kernel.proofs.Sources.{driving_is, is_sourced_is}

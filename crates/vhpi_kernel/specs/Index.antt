@@ -6,7 +6,7 @@ use Rattle.sim_design.specs.declared.Process.{Process}
 use Rattle.sim_journal.specs.declared.Entry.{Entry}
 use Rattle.sim_journal.specs.declared.Entry.TheVariants as entries
 use Rattle.sim_waves.specs.Waveform.{Waveform}
-use Rattle.sim_cycle.specs.State.{value_at, default_in}
+use Rattle.vhpi_kernel.specs.State.{value_at, default_in}
 
 -- the number of the first driver of a net
 abbrev pub driver_of : ℕ → List Process → Option ℕ

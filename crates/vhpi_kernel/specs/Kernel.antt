@@ -4,8 +4,8 @@ use Rattle.sim_design.specs.Design.{IsSound, IsNumbered}
 use Rattle.sim_waves.specs.Waveform.{Waveform}
 use Rattle.sim_journal.specs.declared.Entry.{Entry}
 use Rattle.sim_journal.specs.declared.Entry.TheVariants as entries
-use Rattle.sim_cycle.specs.State.{State, table, driving_value, all_ran}
-use Rattle.sim_cycle.specs.Cycle.{Task, initialization}
+use Rattle.vhpi_kernel.specs.State.{State, table, driving_value, all_ran}
+use Rattle.vhpi_kernel.specs.Cycle.{Task, initialization}
 use Rattle.vhpi_kernel.specs.Index.{IsIndex}
 
 -- what is left of the section between two calls: the initialization, where it isn't done

@@ -1,3 +1,9 @@
 pub mod Index
 pub mod Kernel
 pub mod Advance
+pub mod State
+pub mod Cycle
+pub mod Run
+pub mod Simulation
+pub mod Laws
+pub mod Worked

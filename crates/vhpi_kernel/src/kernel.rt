@@ -1,18 +1,17 @@
 ghost use Rattle.std.specs.Prelude.{◌≡◌, ◌≤◌, ◌<◌, ℕ, ◌-◌, ◌^◌, [], ◌∷◌, ◌++◌, OnOk, OnErr, IfOk, IsErr, true, false, Some, None, length};
 ghost use Rattle.sim_design.specs.Design.{IsSound, IsNumbered};
 ghost use Rattle.sim_journal.specs.declared.Entry.TheVariants as entries;
-ghost use Rattle.sim_cycle.specs.State.{State, Next, Update, events, table, driving_value, all_ran};
-ghost use Rattle.sim_cycle.specs.Cycle.{moved_to, initialization};
+ghost use Rattle.vhpi_kernel.specs.State.{State, Next, Update, events, table, driving_value, all_ran};
+ghost use Rattle.vhpi_kernel.specs.Cycle.{moved_to, initialization};
 ghost use Rattle.vhpi_kernel.specs.Kernel.{initialized, time_entry};
-ghost use Rattle.sim_cycle.specs.Run.{end_at};
-ghost use Rattle.sim_cycle.specs.World.{World, first_world};
+ghost use Rattle.vhpi_kernel.specs.Run.{end_at};
+ghost use Rattle.vhpi_kernel.specs.Simulation.{Simulation, first_simulation};
 ghost use Rattle.vhpi_kernel.specs.Advance.{Advances, Falls};
 
 use crate::index::index_drivers;
 use crate::signals::{default_values, first_waves, next_time};
 use crate::steps::{computed_values, run_processes, update_signals};
-use crate::{NoMemory, Step};
-use sim_cycle::Plan;
+use crate::{NoMemory, Plan, Step};
 use sim_design::Design;
 use sim_journal::{End, Entry};
 use sim_waves::Wave;
@@ -27,7 +26,7 @@ struct Clock {
     cycle: u32,
 }
 
-/// A run of a design under way. It is seen as a `World`.
+/// A run of a design under way. It is seen as a `Simulation`.
 #[derive(Drop)]
 pub struct Kernel {
     alloc: Global,
@@ -48,10 +47,10 @@ pub struct Kernel {
 }
 
 impl Model for Kernel {
-    ghost use Rattle.sim_cycle.specs.World.{World};
+    ghost use Rattle.vhpi_kernel.specs.Simulation.{Simulation};
     ghost use Rattle.vhpi_kernel.specs.Kernel.{tasks_left, IsReady};
 
-    ghost Value = { World };
+    ghost Value = { Simulation };
 
     ghost view = { λ k. record {
       design = k.design;
@@ -72,7 +71,7 @@ impl Kernel {
     pub fn start(alloc: Global, design: Design, plan: Plan) -> Result<Kernel, NoMemory>
         requires sound { IsSound design }
         requires numbered { IsNumbered design }
-        ensures { IfOk result (λ k. k ≡ first_world design plan) }
+        ensures { IfOk result (λ k. k ≡ first_simulation design plan) }
     {
         let index = index_drivers(alloc, design.nets.len(), design.processes.as_slice())?;
         let values = default_values(alloc, design.nets.as_slice())?;

@@ -3,7 +3,7 @@ ghost use Rattle.std.specs.Prelude.{◌≡◌, ◌≤◌, ◌<◌, ◌+◌, ◌^
 ghost use Rattle.std.specs.List.{list_all};
 ghost use Rattle.sim_design.specs.Design.{is_waveform, is_in_time, time_high};
 ghost use Rattle.sim_waves.specs.Waveform.{is_active, at_time, is_rising, IsWithinFirst};
-ghost use Rattle.sim_cycle.specs.State.{sooner, next_of, table, transaction, ran, all_ran, event_of, first_wave};
+ghost use Rattle.vhpi_kernel.specs.State.{sooner, next_of, table, transaction, ran, all_ran, event_of, first_wave};
 ghost use Rattle.vhpi_kernel.specs.Index.{IsWithin, value_by, indexed_value, updated_by, updated_value_by, events_by};
 
 use crate::NoMemory;

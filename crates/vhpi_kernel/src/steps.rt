@@ -2,7 +2,7 @@
 ghost use Rattle.std.specs.Prelude.{◌≡◌, ◌≤◌, ◌++◌, length, map, OnOk, IfOk};
 ghost use Rattle.sim_design.specs.Design.{time_high};
 ghost use Rattle.sim_waves.specs.Waveform.{at_time};
-ghost use Rattle.sim_cycle.specs.State.{table, driving_value, updated_value, events, all_ran};
+ghost use Rattle.vhpi_kernel.specs.State.{table, driving_value, updated_value, events, all_ran};
 ghost use Rattle.vhpi_kernel.specs.Kernel.{IsWired};
 
 use crate::NoMemory;

@@ -1,5 +1,5 @@
 use Rattle.std.proofs.Common.{◌≡◌}
-use Rattle.sim_cycle.specs.World.{sections_left}
+use Rattle.vhpi_kernel.specs.Simulation.{sections_left}
 use Rattle.sim_session.proofs.Turns.{SoFar}
 use Rattle.sim_session.proofs.running.run.Given as goal
 

@@ -1,5 +1,5 @@
 use Rattle.std.proofs.Common.{arith, refl}
-use Rattle.vhdl_checker.specs.Progress.{walk}
+use Rattle.vhdl_names_checker.specs.Progress.{walk}
 use Rattle.vhdl_names.specs.Statements.{case_body, if_body, loop_body, of_elsif, of_label, of_null, of_statement, of_statements}
 use Rattle.vhdl_names.proofs.Parts.{arm_part, arms_end, arms_turn, assertion_is, case_is, case_part, elsif_part, exit_is, if_is, if_part, loop_is, loop_part, next_is, null_is, report_is, signal_is, statement_part, variable_is, wait_is}
 use Rattle.vhdl_names.proofs.Walks.{part_end, part_turn, parts_begin}

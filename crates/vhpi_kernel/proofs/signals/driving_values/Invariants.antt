@@ -1,5 +1,5 @@
 use Rattle.std.proofs.Common.{◌≡◌}
-use Rattle.sim_cycle.specs.State.{table}
+use Rattle.vhpi_kernel.specs.State.{table}
 use Rattle.vhpi_kernel.specs.Index.{indexed_value}
 use Rattle.vhpi_kernel.proofs.signals.driving_values.Given as goal
 

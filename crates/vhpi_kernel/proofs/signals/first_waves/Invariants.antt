@@ -1,5 +1,5 @@
 use Rattle.std.proofs.Common.{◌≡◌, map, take}
-use Rattle.sim_cycle.specs.State.{first_wave}
+use Rattle.vhpi_kernel.specs.State.{first_wave}
 use Rattle.vhpi_kernel.proofs.signals.first_waves.Given as goal
 
 abbrev pub invariant-loop-process : goal.invariant-loop-process

@@ -1,5 +1,5 @@
 use Rattle.std.proofs.Common.{◌≡◌, drop}
-use Rattle.sim_cycle.specs.State.{sooner, next_of}
+use Rattle.vhpi_kernel.specs.State.{sooner, next_of}
 use Rattle.vhpi_kernel.proofs.signals.next_time.Given as goal
 
 abbrev pub invariant-loop-wave : goal.invariant-loop-wave

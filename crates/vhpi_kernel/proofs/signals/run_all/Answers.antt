@@ -1,5 +1,5 @@
 use Rattle.std.proofs.Common.{◌<◌, length, arith, get_or, ◌∙◌, ap}
-use Rattle.sim_cycle.specs.State.{ran}
+use Rattle.vhpi_kernel.specs.State.{ran}
 use Rattle.vhpi_kernel.proofs.Parts.{ran_more, ran_done, rest_all}
 use Rattle.vhpi_kernel.proofs.signals.run_all.Goals as goal
 

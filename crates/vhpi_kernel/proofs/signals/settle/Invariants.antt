@@ -1,5 +1,5 @@
 use Rattle.std.proofs.Common.{◌≡◌, ◌++◌}
-use Rattle.sim_cycle.specs.State.{table}
+use Rattle.vhpi_kernel.specs.State.{table}
 use Rattle.vhpi_kernel.specs.Index.{updated_value_by, events_by}
 use Rattle.vhpi_kernel.proofs.signals.settle.Given as goal
 

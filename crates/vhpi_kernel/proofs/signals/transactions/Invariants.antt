@@ -1,7 +1,7 @@
 use Rattle.std.proofs.Common.{◌≡◌, map, take, drop, true}
 use Rattle.std.specs.List.{list_all}
 use Rattle.sim_design.specs.Design.{is_in_time}
-use Rattle.sim_cycle.specs.State.{transaction}
+use Rattle.vhpi_kernel.specs.State.{transaction}
 use Rattle.vhpi_kernel.proofs.signals.transactions.Given as goal
 
 abbrev pub invariant-loop-element : goal.invariant-loop-element

@@ -1,5 +1,5 @@
 use Rattle.std.proofs.Common.{refl, ap, length, ◌∙◌}
-use Rattle.sim_cycle.specs.State.{table}
+use Rattle.vhpi_kernel.specs.State.{table}
 use Rattle.vhpi_kernel.specs.Index.{indexed_value}
 use Rattle.vhpi_kernel.proofs.Wired.{drivers_within, driving_same}
 use Rattle.vhpi_kernel.proofs.Tables.{length-table}

@@ -1,7 +1,7 @@
 use Rattle.std.proofs.Common.{rules, arith}
 use Rattle.std.proofs.lemmas.Grind.{common_steps}
 use Rattle.vhdl_reader.specs.Reading.{begins_context}
-use Rattle.vhdl_cursor.specs.Steps.{many_from}
+use Rattle.vhdl_reader_expressions.specs.Steps.{many_from}
 use Rattle.vhdl_reader.specs.Reading as spec
 use Rattle.vhdl_reader.proofs.Turns.{one_more}
 use Rattle.vhdl_reader.proofs.units.Units.contexts.Goals as goal

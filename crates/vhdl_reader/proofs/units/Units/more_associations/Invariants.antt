@@ -1,7 +1,7 @@
 use Rattle.std.proofs.Common.{◌≡◌, ◌-◌}
 use Rattle.vhdl_tokens.specs.declared.token.Kind.TheVariants as kind
 use Rattle.vhdl_tokens.specs.declared.token.Delimiter.TheVariants as delimiter
-use Rattle.vhdl_cursor.specs.Steps.{preceded_from}
+use Rattle.vhdl_reader_expressions.specs.Steps.{preceded_from}
 use Rattle.vhdl_reader.specs.Reading as spec
 use Rattle.vhdl_reader.proofs.units.Units.more_associations.Given as goal
 

@@ -1,6 +1,6 @@
 use Rattle.std.proofs.Common.{◌≡◌, ◌-◌}
 use Rattle.vhdl_reader.specs.Reading.{begins_unit}
-use Rattle.vhdl_cursor.specs.Steps.{many_from}
+use Rattle.vhdl_reader_expressions.specs.Steps.{many_from}
 use Rattle.vhdl_reader.specs.Reading as spec
 use Rattle.vhdl_reader.proofs.units.Units.units.Given as goal
 

@@ -1,9 +1,0 @@
-use Rattle.std.proofs.Common.{◌≡◌, ◌-◌}
-use Rattle.vhdl_tokens.specs.declared.token.Kind.TheVariants as kind
-use Rattle.vhdl_tokens.specs.declared.token.Delimiter.TheVariants as delimiter
-use Rattle.vhdl_cursor.specs.Steps.{preceded_from}
-use Rattle.vhdl_declarations.specs.Reading as spec
-use Rattle.vhdl_declarations.proofs.declarations.Declarations.more_generics.Given as goal
-
-abbrev pub invariant-turns : goal.invariant-turns
-invariant-turns l = spec.more_generics l.self.bound l.fn.found l.fn.tokens ≡ preceded_from (l._turn-end - l._turn) (kind.Delimiter delimiter.Semicolon) (spec.generic l.self.bound) l.found l.tokens

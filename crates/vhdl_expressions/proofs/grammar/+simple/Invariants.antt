@@ -1,4 +1,0 @@
-use Rattle.vhdl_expressions.proofs.grammar.+simple.Given as goal
-
-abbrev pub decreases-simple : goal.decreases-simple
-decreases-simple l = l.depth

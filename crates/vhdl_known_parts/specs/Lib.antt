@@ -1,2 +1,0 @@
-pub mod KnownParts
-pub mod Laws

@@ -1,6 +1,0 @@
-use Rattle.std.proofs.Common.{◌≡◌, ◌++◌, map, drop}
-use Rattle.vhdl_meaning.specs.Literals.{bit_byte}
-use Rattle.vhdl_meaning.proofs.literals.bit_bytes.Given as goal
-
-abbrev pub invariant-loop-bit : goal.invariant-loop-bit
-invariant-loop-bit l = l.bytes ++ map bit_byte (drop l.bit-index l.bits) ≡ map bit_byte l.bits

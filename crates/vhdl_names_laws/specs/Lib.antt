@@ -1,0 +1,9 @@
+pub mod Known
+pub mod Typed
+pub mod Tells
+pub mod Meanings
+pub mod Flags
+pub mod ValueLaws
+pub mod KnownParts
+pub mod PartLaws
+pub mod KnownUnits

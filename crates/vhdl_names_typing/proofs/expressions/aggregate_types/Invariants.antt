@@ -1,0 +1,8 @@
+use Rattle.std.proofs.Common.{◌≡◌, map, drop}
+use Rattle.std.specs.Prelude.{fold}
+use Rattle.vhdl_names_operators.specs.Literals.{aggregates, narrowed}
+use Rattle.vhdl_names_typing.specs.Expressions.{item_types}
+use Rattle.vhdl_names_typing.proofs.expressions.aggregate_types.Given as goal
+
+abbrev pub invariant-loop-item : goal.invariant-loop-item
+invariant-loop-item l = fold narrowed l.types (map item_types (drop l.item-index l.items)) ≡ aggregates (map item_types l.items)

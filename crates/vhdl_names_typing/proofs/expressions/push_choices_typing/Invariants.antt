@@ -1,0 +1,7 @@
+use Rattle.std.proofs.Common.{◌≡◌, ◌++◌, drop}
+use Rattle.std.specs.List.{flat_map}
+use Rattle.vhdl_names_typing.specs.Expressions.{choice_typing}
+use Rattle.vhdl_names_typing.proofs.expressions.push_choices_typing.Given as goal
+
+abbrev pub invariant-loop-choice : goal.invariant-loop-choice
+invariant-loop-choice l = l.faults ++ flat_map choice_typing (drop l.choice-index l.choices) ≡ l.initial.faults ++ flat_map choice_typing l.choices

@@ -1,5 +1,0 @@
-use Rattle.vhdl_operators.proofs.Sharing.{one_fits}
-use Rattle.vhdl_operators.proofs.laws.one_type_fits.Goals as goal
-
-pub returns : goal.returns
-returns c = one_fits

@@ -1,5 +1,0 @@
-use Rattle.vhdl_overloads.proofs.Covered.{fresh}
-use Rattle.vhdl_overloads.proofs.blocks.Blocks.new.Goals as goal
-
-pub returns : goal.returns
-returns c = fresh _ c.new-2.ensures.items

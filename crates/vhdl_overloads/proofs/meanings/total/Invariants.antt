@@ -1,6 +1,0 @@
-use Rattle.std.proofs.Common.{◌≡◌, ◌+◌, length, drop}
-use Rattle.vhdl_overloads.specs.Finds.{flat}
-use Rattle.vhdl_overloads.proofs.meanings.total.Given as goal
-
-abbrev pub invariant-loop-segment : goal.invariant-loop-segment
-invariant-loop-segment l = l.len + length (flat (drop l.segment-index l.segments)) ≡ length (flat l.segments)

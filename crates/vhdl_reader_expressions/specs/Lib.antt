@@ -1,0 +1,4 @@
+pub mod Nests
+pub mod Reading
+pub mod Kinds
+pub mod Steps

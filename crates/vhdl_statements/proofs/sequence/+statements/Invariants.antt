@@ -1,4 +1,0 @@
-use Rattle.vhdl_statements.proofs.sequence.+statements.Given as goal
-
-abbrev pub decreases-statements : goal.decreases-statements
-decreases-statements l = l.depth

@@ -3,9 +3,10 @@
 
     bench/tokens.py PROGRAM
 
-PROGRAM is the built tokens_bench, crates/tokens_bench/out/tokens_bench after
-`rt run` in crates/tokens_bench. Prints for each text the seconds and what the
-program answered, and ends with status 1 if a text takes a second or more.
+PROGRAM is the built simulator, crates/vhpisim/out/vhpisim after a call of
+./vhpisim. No text is a design file, so each is refused once its tokens are
+read. Prints for each text the seconds and the refusal, and ends with status 1
+if a text takes a second or more.
 """
 import os
 import subprocess
@@ -53,12 +54,14 @@ def main():
             with open(path, "wb") as file:
                 file.write(text)
             begin = time.monotonic()
-            done = subprocess.run([program, path], capture_output=True, check=False)
+            done = subprocess.run(
+                [program, "run", path, "1"], capture_output=True, check=False
+            )
             seconds = time.monotonic() - begin
             slowest = max(slowest, seconds)
-            answer = done.stdout.decode().strip()
+            answer = done.stderr.decode().strip()
             print(f"{seconds:7.3f}  {name}: {answer}")
-            if done.returncode != 0:
+            if done.returncode != 1 or not answer.startswith("vhpisim: design: "):
                 sys.exit(f"the program ended with status {done.returncode}")
     print(f"{slowest:7.3f}  the slowest")
     sys.exit(slowest >= 1)

@@ -148,7 +148,10 @@ fn actual_names(alloc: Global, actual: ActualTold) -> Items<Fault>
     ensures { result ≡ spec.actual_names actual }
 {
     match actual {
-        ActualTold::Value(told) => told.names,
+        ActualTold::Value(told) => {
+            let (names, _typing) = told.into_faults();
+            names
+        }
         ActualTold::Open(_) => Items::new(alloc),
     }
 }

@@ -150,10 +150,12 @@ pub fn objects_faults(
 {
     let known = is_known_throughout(&told);
     let ObjectsTold { subtype, initial } = told;
-    let found = known_faults(alloc, subtype.constraint, subtype.mark, &initial, names)?;
+    let mark = subtype.mark;
+    let (own, typing, constraint) = subtype.into_faults();
+    let found = known_faults(alloc, constraint, mark, &initial, names)?;
     let found = if_known(alloc, known, found);
-    let found = append(initial_value(alloc, subtype.mark, initial)?, found)?;
-    append(subtype.names, append(subtype.typing, found)?)
+    let found = append(initial_value(alloc, mark, initial)?, found)?;
+    append(own, append(typing, found)?)
 }
 
 /// The faults of the declaration of a subtype (6.3).
@@ -162,6 +164,7 @@ pub fn subtype_faults(alloc: Global, told: SubtypeTold) -> Result<Items<Fault>, 
     ensures { IfOk result (λ faults. faults ≡ spec.subtype_faults told) }
 {
     let known = is_known(told.names.as_slice());
-    let found = if_known(alloc, known, told.constraint);
-    append(told.names, append(told.typing, found)?)
+    let (names, typing, constraint) = told.into_faults();
+    let found = if_known(alloc, known, constraint);
+    append(names, append(typing, found)?)
 }

@@ -83,7 +83,8 @@ fn target_faults(
     ensures { IfOk result (λ faults. faults ≡ spec.target_faults by_signal target) }
 {
     let kind = target_kind(alloc, by_signal, &target)?;
-    append(target.names, append(target.typing, kind)?)
+    let (names, typing) = target.into_faults();
+    append(names, append(typing, kind)?)
 }
 
 /// The type of a target, if it is an object.
@@ -216,7 +217,8 @@ fn sensitive_faults(alloc: Global, name: NameTold) -> Result<Items<Fault>, Alloc
     ensures { IfOk result (λ faults. faults ≡ spec.sensitive_faults name) }
 {
     let kind = sensitive_kind(alloc, &name)?;
-    append(name.names, append(name.typing, kind)?)
+    let (names, typing) = name.into_faults();
+    append(names, append(typing, kind)?)
 }
 
 /// The faults of the names of a sensitivity list (10.2, 11.3).

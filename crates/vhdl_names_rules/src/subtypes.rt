@@ -90,9 +90,10 @@ fn range(alloc: Global, base: Option<BaseType>, name: NameTold) -> Result<Breaks
     let names = name.names.as_slice();
     let unstatic = break_if(alloc, !name.is_static, names, place, Rule::Constraint)?;
     let found = append(wrong_type, unstatic)?;
+    let (names, typing) = name.into_faults();
     Ok(Breaks {
-        names: name.names,
-        typing: append(name.typing, found)?,
+        names,
+        typing: append(typing, found)?,
     })
 }
 
@@ -356,6 +357,9 @@ pub fn loop_range(
 {
     match bounds {
         BoundsTold::Range(left, right) => loop_bounds(alloc, left, right, base),
-        BoundsTold::Name(name) => append(name.names, name.typing),
+        BoundsTold::Name(name) => {
+            let (names, typing) = name.into_faults();
+            append(names, typing)
+        }
     }
 }

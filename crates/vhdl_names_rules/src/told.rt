@@ -1,11 +1,12 @@
 //! What declarations and statements tell, by what their expressions and names tell.
 
+ghost use Rattle.std.specs.Prelude.{◌≡◌};
+
 use sqlite_items::Items;
 use vhdl_names_typing::{NameTold, Told};
 use vhdl_units::{Fault, Mark, Object};
 
 /// What a subtype indication tells (6.3).
-#[derive(Drop)]
 pub struct SubtypeTold {
     /// The place of the type's name.
     pub place: u32,
@@ -18,6 +19,35 @@ pub struct SubtypeTold {
     pub constraint: Items<Fault>,
     /// The subtype, if the type's name denotes one.
     pub mark: Option<Mark>,
+}
+
+// A `drop` of its own is called, where a derived one is written out and proved behind each `?`.
+impl Drop for SubtypeTold {
+    fn drop(self) {
+        let SubtypeTold {
+            place: _,
+            names: _names,
+            typing: _typing,
+            constraint: _constraint,
+            mark: _,
+        } = self;
+    }
+}
+
+impl SubtypeTold {
+    /// The breaks in its fields `names`, `typing` and `constraint`.
+    pub(crate) fn into_faults(self) -> (Items<Fault>, Items<Fault>, Items<Fault>)
+        ensures { result ≡ (self.names, self.typing, self.constraint) }
+    {
+        let SubtypeTold {
+            place: _,
+            names,
+            typing,
+            constraint,
+            mark: _,
+        } = self;
+        (names, typing, constraint)
+    }
 }
 
 /// What a declaration of objects tells: their subtype, and their value at the beginning.

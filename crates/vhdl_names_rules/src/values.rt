@@ -28,9 +28,10 @@ pub(crate) fn breaks_of(alloc: Global, told: Told) -> Result<Breaks, AllocError>
     }) }
 {
     let more = without_bounds(alloc, &told)?;
+    let (names, typing) = told.into_faults();
     Ok(Breaks {
-        names: told.names,
-        typing: append(told.typing, more)?,
+        names,
+        typing: append(typing, more)?,
     })
 }
 
@@ -84,7 +85,8 @@ pub fn valued(
 {
     let bounds = with_bounds(alloc, is_static, &told)?;
     let found = append(bounds, asks_if_known(alloc, base, &told)?)?;
-    append(told.names, append(told.typing, found)?)
+    let (names, typing) = told.into_faults();
+    append(names, append(typing, found)?)
 }
 
 /// The faults of an expression that may be left out.

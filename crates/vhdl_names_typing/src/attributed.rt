@@ -18,8 +18,8 @@ use vhdl_units::{BaseType, ObjectAttribute};
 fn bound_of(alloc: Global, mut name: NameTold) -> Result<NameTold, AllocError>
     ensures { IfOk result (λ told. told ≡ spec.bound_of name) }
 {
-    name.denotes = Denotes::Value;
-    name.types = Types::one(alloc, BaseType::Integer)?;
+    let types = Types::one(alloc, BaseType::Integer)?;
+    name.becomes(Denotes::Value, types);
     name.is_static = true;
     name.reads = false;
     Ok(name)

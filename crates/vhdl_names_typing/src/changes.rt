@@ -18,8 +18,7 @@ pub(crate) fn wrong_kind(alloc: Global, mut name: NameTold) -> Result<NameTold, 
 {
     let fault = at(alloc, name.place, Rule::WrongKind)?;
     name.names.append(fault)?;
-    name.denotes = Denotes::Unknown;
-    name.types = Types::new();
+    name.becomes(Denotes::Unknown, Types::new());
     Ok(name)
 }
 
@@ -34,8 +33,7 @@ pub(crate) fn has_no_such(
 {
     let fault = at(alloc, place, Rule::Attribute)?;
     name.names.append(fault)?;
-    name.denotes = Denotes::Unknown;
-    name.types = Types::new();
+    name.becomes(Denotes::Unknown, Types::new());
     Ok(name)
 }
 
@@ -44,8 +42,7 @@ pub(crate) fn has_no_such(
 pub(crate) fn misfits(denotes: Denotes, mut name: NameTold) -> NameTold
     ensures { result ≡ spec.misfits denotes name }
 {
-    name.denotes = denotes;
-    name.types = Types::new();
+    name.becomes(denotes, Types::new());
     name.is_misfit = true;
     name
 }
@@ -54,8 +51,7 @@ pub(crate) fn misfits(denotes: Denotes, mut name: NameTold) -> NameTold
 pub(crate) fn becomes_value(types: Types, mut name: NameTold) -> NameTold
     ensures { result ≡ spec.becomes_value types name }
 {
-    name.denotes = Denotes::Value;
-    name.types = types;
+    name.becomes(Denotes::Value, types);
     name.is_static = false;
     name
 }
@@ -107,10 +103,9 @@ fn typing_in(alloc: Global, told: &Told) -> Result<Items<Fault>, AllocError>
 pub(crate) fn takes(alloc: Global, mut name: NameTold, told: &Told) -> Result<NameTold, AllocError>
     ensures { IfOk result (λ taken. taken ≡ spec.takes name told.now) }
 {
-    let names = Items::from_slice(alloc, told.names.as_slice())?;
-    let typing = typing_in(alloc, told)?;
-    name.names.append(names)?;
-    name.typing.append(typing)?;
+    name.names
+        .append(Items::from_slice(alloc, told.names.as_slice())?)?;
+    name.typing.append(typing_in(alloc, told)?)?;
     name.is_static = name.is_static && told.is_static;
     name.reads = name.reads || told.reads;
     Ok(name)

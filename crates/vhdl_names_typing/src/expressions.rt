@@ -4,7 +4,8 @@ ghost use Rattle.std.specs.Prelude.{◌≡◌, ◌++◌, IfOk, OnOk, map};
 ghost use Rattle.std.specs.List.{flat_map, list_all, list_any};
 ghost use Rattle.vhdl_names_operators.specs.Literals.{aggregates};
 ghost use Rattle.vhdl_names_typing.specs.Expressions as spec;
-ghost use Rattle.vhdl_names_typing.specs.Faults.{typing_of};
+ghost use Rattle.vhdl_names_typing.specs.Faults.{break_if, typing_of};
+ghost use Rattle.vhdl_units.specs.declared.fault.Rule.TheVariants as rule;
 
 use crate::faults::{append, asks, break_if, without_bounds};
 use crate::told::{ChoiceTold, Form, ItemTold, Told};
@@ -35,14 +36,12 @@ pub fn unary_told(
 ) -> Result<Told, AllocError>
     ensures { IfOk result (λ v. v ≡ spec.unary_told place operator operand) }
 {
-    let types = results_from(alloc, operator, &operand.types)?;
-    let told = without_place(alloc, operand)?;
-    Ok(Told {
-        place,
-        types,
-        form: Form::Value,
-        ..told
-    })
+    let mut told = without_place(alloc, operand)?;
+    let types = results_from(alloc, operator, &told.types)?;
+    told.retype(types);
+    told.place = place;
+    told.form = Form::Value;
+    Ok(told)
 }
 
 /// The first operand of operators that begin at this place.
@@ -50,12 +49,10 @@ pub fn unary_told(
 pub fn operand(alloc: Global, place: u32, first: Told) -> Result<Told, AllocError>
     ensures { IfOk result (λ v. v ≡ spec.operand place first) }
 {
-    let told = without_place(alloc, first)?;
-    Ok(Told {
-        place,
-        form: Form::Value,
-        ..told
-    })
+    let mut told = without_place(alloc, first)?;
+    told.place = place;
+    told.form = Form::Value;
+    Ok(told)
 }
 
 /// Whether an operator is a relation (9.2.3).
@@ -88,22 +85,17 @@ fn beside(alloc: Global, mut left: Told, right: Told) -> Result<Told, AllocError
     ensures { IfOk result (λ v. v ≡ spec.beside left right) }
 {
     let right = without_place(alloc, right)?;
-    left.names.append(right.names)?;
-    left.typing.append(right.typing)?;
     left.is_static = left.is_static && right.is_static;
     left.reads = left.reads || right.reads;
+    let (names, typing) = right.into_faults();
+    left.names.append(names)?;
+    left.typing.append(typing)?;
     Ok(left)
 }
 
-/// Operands with the types that their operator gives, and whether it is a relation that doesn't fit them.
-#[tactic(auto, unfolding(crate::specs::Expressions::operated))]
-fn operated(
-    alloc: Global,
-    unrelated: bool,
-    types: Types,
-    mut told: Told,
-) -> Result<Told, AllocError>
-    ensures { IfOk result (λ v. v ≡ spec.operated unrelated types told) }
+/// Operands, and the fault of a relation that doesn't fit them.
+fn related(alloc: Global, unrelated: bool, mut told: Told) -> Result<Told, AllocError>
+    ensures { IfOk result (λ v. v ≡ record told { typing = told.typing ++ break_if unrelated told.names told.place rule.Type }) }
 {
     let fault = break_if(
         alloc,
@@ -113,15 +105,14 @@ fn operated(
         Rule::Type,
     )?;
     told.typing.append(fault)?;
-    told.types = types;
     Ok(told)
 }
 
 /// One more operand behind others, from left to right.
-#[tactic(auto, unfolding(crate::specs::Expressions::joined))]
+#[tactic(auto, unfolding(crate::specs::Expressions::joined, crate::specs::Expressions::operated, crate::specs::Expressions::beside))]
 pub fn joined(
     alloc: Global,
-    left: Told,
+    mut left: Told,
     operator: Operator,
     right: Told,
 ) -> Result<Told, AllocError>
@@ -129,7 +120,8 @@ pub fn joined(
 {
     let unrelated = is_unrelated(operator, &left.types, &right.types);
     let types = results(alloc, operator, &left.types, &right.types)?;
-    operated(alloc, unrelated, types, beside(alloc, left, right)?)
+    left.retype(types);
+    related(alloc, unrelated, beside(alloc, left, right)?)
 }
 
 /// Adds what is asked of an index.

@@ -121,5 +121,6 @@ pub fn typing_of(alloc: Global, told: Told) -> Result<Items<Fault>, AllocError>
     ensures { IfOk result (λ faults. faults ≡ spec.typing_of told) }
 {
     let more = without_bounds(alloc, &told)?;
-    append(told.typing, more)
+    let (_names, typing) = told.into_faults();
+    append(typing, more)
 }

@@ -2,12 +2,11 @@
 
 ghost use Rattle.std.specs.Prelude.{◌≡◌, IfOk};
 ghost use Rattle.vhdl_names_typing.specs.Names as spec;
-ghost use Rattle.vhdl_names_typing.specs.declared.told.Form.TheVariants as form;
 
 use crate::attributed::attributed;
 use crate::attributes::{is_read, is_static_class};
 use crate::changes::wrong_kind;
-use crate::faults::{append, at, break_if};
+use crate::faults::{at, break_if};
 use crate::indexed::{indexed, sliced};
 use crate::told::{Denotes, Form, NameTold, ObjectName, PartTold, Told};
 use sqlite_items::Items;
@@ -144,37 +143,14 @@ pub fn finished(alloc: Global, mut name: NameTold) -> Result<NameTold, AllocErro
     Ok(name)
 }
 
-#[tactic(auto, unfolding(crate::specs::Names::told_as))]
-fn told_as(form: Form, types: Types, name: NameTold) -> Told
-    ensures { result ≡ spec.told_as form types name }
-{
-    Told {
-        place: name.place,
-        names: name.names,
-        typing: name.typing,
-        types,
-        is_static: name.is_static,
-        reads: name.reads,
-        form,
-    }
-}
-
 /// What a name tells as a value that denotes none, as that of a type or a label.
-#[tactic(auto, unfolding(crate::specs::Names::no_value))]
-fn no_value(alloc: Global, name: NameTold) -> Result<Told, AllocError>
+#[tactic(auto, unfolding(crate::specs::Names::no_value, crate::specs::Names::told_as))]
+fn no_value(alloc: Global, mut name: NameTold) -> Result<Told, AllocError>
     ensures { IfOk result (λ told. told ≡ spec.no_value name) }
 {
     let fault = at(alloc, name.place, Rule::WrongKind)?;
-    let names = append(name.names, fault)?;
-    Ok(Told {
-        place: name.place,
-        names,
-        typing: name.typing,
-        types: Types::new(),
-        is_static: name.is_static,
-        reads: name.reads,
-        form: Form::Unknown,
-    })
+    name.names.append(fault)?;
+    Ok(name.told_as(Form::Unknown, Types::new()))
 }
 
 /// The type there is, or none.
@@ -188,37 +164,21 @@ pub(crate) fn option_types(alloc: Global, base: Option<BaseType>) -> Result<Type
     }
 }
 
-/// What a literal, or what a function or attribute gives, tells as an expression.
-#[tactic(auto, unfolding(crate::specs::Names::told_as))]
-fn value(name: NameTold) -> Told
-    ensures { result ≡ spec.told_as form.Value name.types name }
-{
-    Told {
-        place: name.place,
-        names: name.names,
-        typing: name.typing,
-        types: name.types,
-        is_static: name.is_static,
-        reads: name.reads,
-        form: Form::Value,
-    }
-}
-
 /// What a name tells as an expression (9.1). One that denotes no value is a fault.
 #[tactic(auto, unfolding(crate::specs::Names::value_of, crate::specs::Names::value_as))]
 pub fn value_of(alloc: Global, name: NameTold) -> Result<Told, AllocError>
     ensures { IfOk result (λ told. told ≡ spec.value_of name) }
 {
     match name.denotes {
-        Denotes::Unknown => Ok(told_as(Form::Unknown, Types::new(), name)),
+        Denotes::Unknown => Ok(name.told_as(Form::Unknown, Types::new())),
         Denotes::Object(object) => {
             let types = option_types(alloc, object.base)?;
-            Ok(told_as(Form::Object(object), types, name))
+            Ok(name.told_as(Form::Object(object), types))
         }
-        Denotes::Value => Ok(value(name)),
+        Denotes::Value => Ok(name.told_with_types(Form::Value)),
         Denotes::Now => {
             let types = Types::one(alloc, BaseType::Time)?;
-            Ok(told_as(Form::Value, types, name))
+            Ok(name.told_as(Form::Value, types))
         }
         _ => no_value(alloc, name),
     }

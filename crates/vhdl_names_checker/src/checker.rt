@@ -1,6 +1,6 @@
 //! The way along a design file, event by event, and the static rules that are broken on it.
 
-ghost use Rattle.std.specs.Prelude.{◌≡◌, IfOk, OnOk};
+ghost use Rattle.std.specs.Prelude.{◌≡◌, ◌++◌, IfOk, OnOk};
 ghost use Rattle.std.specs.Option.{option_copied};
 ghost use Rattle.vhdl_names_checker.specs.Events.{Event};
 ghost use Rattle.vhdl_names_checker.specs.Progress.{setting_out, step};
@@ -101,6 +101,14 @@ impl<'a> Checker<'a> {
         self.broken.as_slice()
     }
 
+    // Adds broken rules, as the last step of an event.
+    fn note(&mut self, faults: Items<Fault>) -> Result<(), AllocError>
+        ensures { OnOk result (self.new ≡ record self.old { broken = self.old.broken ++ faults }) }
+    {
+        self.broken.append(faults)?;
+        Ok(())
+    }
+
     // ---- context clauses
 
     /// A library clause (13.2).
@@ -109,8 +117,7 @@ impl<'a> Checker<'a> {
         ensures { OnOk result (self.new ≡ step (Event.Library tokens.now) self.old) }
     {
         let faults = library_faults(self.alloc, self.text, tokens)?;
-        self.broken.append(faults)?;
-        Ok(())
+        self.note(faults)
     }
 
     /// A use clause (12.4).
@@ -119,8 +126,7 @@ impl<'a> Checker<'a> {
         ensures { OnOk result (self.new ≡ step (Event.Uses clause.now) self.old) }
     {
         let faults = use_faults(self.alloc, self.text, clause)?;
-        self.broken.append(faults)?;
-        Ok(())
+        self.note(faults)
     }
 
     // ---- units
@@ -235,8 +241,7 @@ impl<'a> Checker<'a> {
         let faults = objects_faults(self.alloc, told, names)?;
         let more = declare_objects(&mut self.around, self.alloc, self.text, class, base, names)?;
         let faults = append(faults, more)?;
-        self.broken.append(faults)?;
-        Ok(())
+        self.note(faults)
     }
 
     /// An attribute specification (7.2).
@@ -278,8 +283,7 @@ impl<'a> Checker<'a> {
     {
         let told = names_here(self.alloc, self.text, &self.around, names)?;
         let faults = sensitivity_faults(self.alloc, told)?;
-        self.broken.append(faults)?;
-        Ok(())
+        self.note(faults)
     }
 
     /// A process begins, with or without a sensitivity list (11.3).
@@ -320,13 +324,12 @@ impl<'a> Checker<'a> {
     ) -> Result<(), AllocError>
         ensures { OnOk result (self.new ≡ step (Event.Assigned target.now delay.now waveform.now alternatives.now (option_copied condition.entry)) self.old) }
     {
-        let target = name_here(self.alloc, self.text, &self.around, target)?;
-        let limit = reject(self.alloc, self.text, &self.around, delay)?;
         let elements = waveforms(self.alloc, self.text, &self.around, waveform, alternatives)?;
         let conditions = conditions(self.alloc, self.text, &self.around, alternatives, condition)?;
+        let target = name_here(self.alloc, self.text, &self.around, target)?;
+        let limit = reject(self.alloc, self.text, &self.around, delay)?;
         let faults = signal_assignment_faults(self.alloc, target, limit, elements, conditions)?;
-        self.broken.append(faults)?;
-        Ok(())
+        self.note(faults)
     }
 
     /// A variable assignment (10.6).
@@ -337,8 +340,7 @@ impl<'a> Checker<'a> {
         let target = name_here(self.alloc, self.text, &self.around, target)?;
         let value = expression(self.alloc, self.text, &self.around, value)?;
         let faults = variable_assignment_faults(self.alloc, target, value)?;
-        self.broken.append(faults)?;
-        Ok(())
+        self.note(faults)
     }
 
     /// A wait statement (10.2).
@@ -348,8 +350,7 @@ impl<'a> Checker<'a> {
     {
         let told = wait_here(self.alloc, self.text, &self.around, wait)?;
         let faults = wait_faults(self.alloc, self.around.is_listed(), told)?;
-        self.broken.append(faults)?;
-        Ok(())
+        self.note(faults)
     }
 
     /// An assertion (10.3).
@@ -361,8 +362,7 @@ impl<'a> Checker<'a> {
         let faults = tested(self.alloc, told)?;
         let more = severity_faults(self.alloc, self.text, assertion.severity)?;
         let faults = append(faults, more)?;
-        self.broken.append(faults)?;
-        Ok(())
+        self.note(faults)
     }
 
     /// A report (10.4).
@@ -371,8 +371,7 @@ impl<'a> Checker<'a> {
         ensures { OnOk result (self.new ≡ step (Event.Reported report.now) self.old) }
     {
         let faults = severity_faults(self.alloc, self.text, report.severity)?;
-        self.broken.append(faults)?;
-        Ok(())
+        self.note(faults)
     }
 
     /// A condition of an if statement (10.8).
@@ -382,8 +381,7 @@ impl<'a> Checker<'a> {
     {
         let told = expression(self.alloc, self.text, &self.around, condition)?;
         let faults = tested(self.alloc, told)?;
-        self.broken.append(faults)?;
-        Ok(())
+        self.note(faults)
     }
 
     /// An if statement ends, with a name at its end or without.
@@ -396,8 +394,7 @@ impl<'a> Checker<'a> {
         ensures { OnOk result (self.new ≡ step (Event.EndIf label.now end_name.now) self.old) }
     {
         let faults = end_faults(self.alloc, self.text, *label, *end_name)?;
-        self.broken.append(faults)?;
-        Ok(())
+        self.note(faults)
     }
 
     /// A case statement begins with what it chooses by (10.9).
@@ -420,8 +417,7 @@ impl<'a> Checker<'a> {
     {
         let told = choices_here(self.alloc, self.text, &self.around, choices)?;
         let faults = arm_faults(self.alloc, self.around.subject(), is_last, told)?;
-        self.broken.append(faults)?;
-        Ok(())
+        self.note(faults)
     }
 
     /// The case statement ends, with a name at its end or without.
@@ -445,8 +441,7 @@ impl<'a> Checker<'a> {
         ensures { OnOk result (self.new ≡ step (Event.Looped label.now scheme.now) self.old) }
     {
         let faults = begin_loop(&mut self.around, self.alloc, self.text, label, scheme)?;
-        self.broken.append(faults)?;
-        Ok(())
+        self.note(faults)
     }
 
     /// The loop ends, with a name at its end or without.
@@ -473,8 +468,7 @@ impl<'a> Checker<'a> {
         let is_inside = is_in_loop(self.alloc, self.text, &jump.label, &self.around)?;
         let condition = optional(self.alloc, self.text, &self.around, jump.condition.as_ref())?;
         let faults = jump_faults(self.alloc, is_inside, jump_place(jump), condition)?;
-        self.broken.append(faults)?;
-        Ok(())
+        self.note(faults)
     }
 
     /// An instance of an entity (11.7).
@@ -483,7 +477,6 @@ impl<'a> Checker<'a> {
         ensures { OnOk result (self.new ≡ step (Event.Instance instance.now) self.old) }
     {
         let faults = instance_faults(self.alloc, self.text, self.file, &self.around, instance)?;
-        self.broken.append(faults)?;
-        Ok(())
+        self.note(faults)
     }
 }

@@ -85,6 +85,22 @@ fn entity_missing(
     }
 }
 
+// The fault of an architecture that stands before, of the entity of this name.
+fn architecture_twice(
+    alloc: Global,
+    text: &[u8],
+    name: &Token,
+    entity_name: &str,
+    around: &Surroundings,
+) -> Result<Items<Fault>, AllocError>
+    ensures { IfOk result (λ faults. faults ≡
+        spec.unit_twice (after.architecture_key entity_name.now (word_in text.now name.now)) name.now.start around.now) }
+{
+    let spelled = word(alloc, text, name)?;
+    let key = architecture_key(alloc, entity_name, spelled.as_str())?;
+    unit_twice(alloc, key.as_str(), name.start, around)
+}
+
 /// The faults of an architecture: its entity doesn't stand before it, or it stands there already (3.3, 13.1).
 #[tactic(auto, unfolding(crate::specs::Faults::architecture_faults))]
 pub fn architecture_faults(
@@ -97,12 +113,10 @@ pub fn architecture_faults(
     ensures { IfOk result (λ faults. faults ≡ spec.architecture_faults text.now name.now entity.now around.now) }
 {
     let entity_name = word(alloc, text, entity)?;
-    let spelled = word(alloc, text, name)?;
-    let key = architecture_key(alloc, entity_name.as_str(), spelled.as_str())?;
     let missing = entity_missing(alloc, entity_name.as_str(), entity.start, around)?;
     append(
         missing,
-        unit_twice(alloc, key.as_str(), name.start, around)?,
+        architecture_twice(alloc, text, name, entity_name.as_str(), around)?,
     )
 }
 

@@ -14,7 +14,7 @@ use crate::interface::Interface;
 use std::alloc::{AllocError, Global};
 use std::marker::Model;
 use std::mem;
-use vhdl_names_scope::{Region, Regions, STANDARD_MARKS, standard};
+use vhdl_names_scope::{Further, Region, Regions, STANDARD_MARKS, standard};
 use vhdl_names_typing::LiteralBounds;
 use vhdl_units::{BaseType, Class, Entry, Object};
 
@@ -164,6 +164,13 @@ fn lend(alloc: Global, bases: &mut Vec<Region>, entity: Option<usize>) -> Region
         Some(number) => taken(alloc, bases, number),
         None => Region::new(alloc),
     }
+}
+
+// What a region declares itself. The region that it goes on is dropped.
+fn own_part(region: Further) -> Region
+    ensures { result ≡ region.more }
+{
+    region.more
 }
 
 fn put(bases: &mut Vec<Region>, entity: usize, base: Region)
@@ -362,10 +369,10 @@ impl Surroundings {
         ensures { OnOk result (self.new ≡ after.entity_ended (string_bytes name) self.old) }
     {
         let number = self.interfaces.len();
-        let region = self.regions.close(alloc);
+        let region = own_part(self.regions.close(alloc));
+        self.bases.push(region)?;
         let interface = mem::replace(&mut self.interface, Interface::new(alloc));
         self.interfaces.push(interface)?;
-        self.bases.push(region.more)?;
         self.library.add(name, Entry::Label(number))?;
         Ok(())
     }

@@ -1,6 +1,7 @@
 //! The way along a design file, event by event, and the static rules that are broken on it.
 
-ghost use Rattle.std.specs.Prelude.{◌≡◌, ◌++◌, IfOk, OnOk};
+ghost use Rattle.std.specs.Prelude.{◌≡◌, ◌++◌, IfOk, List, OnOk};
+ghost use Rattle.vhdl_units.specs.declared.fault.Fault.{Fault};
 ghost use Rattle.std.specs.Option.{option_copied};
 ghost use Rattle.vhdl_names_checker.specs.Events.{Event};
 ghost use Rattle.vhdl_names_checker.specs.Progress.{setting_out, step};
@@ -101,11 +102,12 @@ impl<'a> Checker<'a> {
         self.broken.as_slice()
     }
 
-    // Adds broken rules, as the last step of an event.
-    fn note(&mut self, faults: Items<Fault>) -> Result<(), AllocError>
-        ensures { OnOk result (self.new ≡ record self.old { broken = self.old.broken ++ faults }) }
+    // Adds the broken rules that were found, as the last step of an event.
+    fn note(&mut self, faults: Result<Items<Fault>, AllocError>) -> Result<(), AllocError>
+        ensures { (found : List Fault) → IfOk faults (λ v. v ≡ found)
+            → OnOk result (self.new ≡ record self.old { broken = self.old.broken ++ found }) }
     {
-        self.broken.append(faults)?;
+        self.broken.append(faults?)?;
         Ok(())
     }
 
@@ -116,7 +118,7 @@ impl<'a> Checker<'a> {
     pub fn library(&mut self, tokens: &[Token]) -> Result<(), AllocError>
         ensures { OnOk result (self.new ≡ step (Event.Library tokens.now) self.old) }
     {
-        let faults = library_faults(self.alloc, self.text, tokens)?;
+        let faults = library_faults(self.alloc, self.text, tokens);
         self.note(faults)
     }
 
@@ -125,7 +127,7 @@ impl<'a> Checker<'a> {
     pub fn uses(&mut self, clause: &Use) -> Result<(), AllocError>
         ensures { OnOk result (self.new ≡ step (Event.Uses clause.now) self.old) }
     {
-        let faults = use_faults(self.alloc, self.text, clause)?;
+        let faults = use_faults(self.alloc, self.text, clause);
         self.note(faults)
     }
 
@@ -136,8 +138,8 @@ impl<'a> Checker<'a> {
     pub fn entity(&mut self, name: &Token) -> Result<(), AllocError>
         ensures { OnOk result (self.new ≡ step (Event.Entity name.now) self.old) }
     {
-        let faults = entity_faults(self.alloc, self.text, name, &self.around)?;
-        self.broken.append(faults)?;
+        let faults = entity_faults(self.alloc, self.text, name, &self.around);
+        self.note(faults)?;
         self.around.begin_entity(self.alloc)?;
         Ok(())
     }
@@ -147,8 +149,8 @@ impl<'a> Checker<'a> {
     pub fn end_entity(&mut self, name: &Token, end_name: &Option<Token>) -> Result<(), AllocError>
         ensures { OnOk result (self.new ≡ step (Event.EndEntity name.now end_name.now) self.old) }
     {
-        let faults = end_faults(self.alloc, self.text, Some(*name), *end_name)?;
-        self.broken.append(faults)?;
+        let faults = end_faults(self.alloc, self.text, Some(*name), *end_name);
+        self.note(faults)?;
         end_entity(&mut self.around, self.alloc, self.text, name)?;
         Ok(())
     }
@@ -163,8 +165,8 @@ impl<'a> Checker<'a> {
     ) -> Result<(), AllocError>
         ensures { OnOk result (self.new ≡ step (Event.Architecture name.now entity.now is_bare) self.old) }
     {
-        let faults = architecture_faults(self.alloc, self.text, name, entity, &self.around)?;
-        self.broken.append(faults)?;
+        let faults = architecture_faults(self.alloc, self.text, name, entity, &self.around);
+        self.note(faults)?;
         begin_architecture(
             &mut self.around,
             self.alloc,
@@ -185,8 +187,8 @@ impl<'a> Checker<'a> {
     ) -> Result<(), AllocError>
         ensures { OnOk result (self.new ≡ step (Event.EndArchitecture name.now end_name.now) self.old) }
     {
-        let faults = end_faults(self.alloc, self.text, Some(*name), *end_name)?;
-        self.broken.append(faults)?;
+        let faults = end_faults(self.alloc, self.text, Some(*name), *end_name);
+        self.note(faults)?;
         self.around.end_architecture(self.alloc);
         Ok(())
     }
@@ -198,8 +200,8 @@ impl<'a> Checker<'a> {
     pub fn enumeration(&mut self, declaration: &TypeDeclaration) -> Result<(), AllocError>
         ensures { OnOk result (self.new ≡ step (Event.Enumeration declaration.now) self.old) }
     {
-        let faults = twice(self.alloc, self.text, &self.around, &declaration.name)?;
-        self.broken.append(faults)?;
+        let faults = twice(self.alloc, self.text, &self.around, &declaration.name);
+        self.note(faults)?;
         declare_enumeration(&mut self.around, self.alloc, self.text, declaration)?;
         Ok(())
     }
@@ -213,8 +215,8 @@ impl<'a> Checker<'a> {
         let mark = told.mark;
         let faults = subtype_faults(self.alloc, told)?;
         let more = twice(self.alloc, self.text, &self.around, &declaration.name)?;
-        let faults = append(faults, more)?;
-        self.broken.append(faults)?;
+        let faults = append(faults, more);
+        self.note(faults)?;
         declare_subtype(
             &mut self.around,
             self.alloc,
@@ -240,7 +242,7 @@ impl<'a> Checker<'a> {
         let base = type_or(told.subtype.mark);
         let faults = objects_faults(self.alloc, told, names)?;
         let more = declare_objects(&mut self.around, self.alloc, self.text, class, base, names)?;
-        let faults = append(faults, more)?;
+        let faults = append(faults, more);
         self.note(faults)
     }
 
@@ -257,8 +259,8 @@ impl<'a> Checker<'a> {
             self.around.is_allowed(),
             specification,
             told,
-        )?;
-        self.broken.append(faults)?;
+        );
+        self.note(faults)?;
         self.around.disallow();
         Ok(())
     }
@@ -268,8 +270,8 @@ impl<'a> Checker<'a> {
     pub fn labelled(&mut self, label: &Token) -> Result<(), AllocError>
         ensures { OnOk result (self.new ≡ step (Event.Labelled label.now) self.old) }
     {
-        let faults = twice(self.alloc, self.text, &self.around, label)?;
-        self.broken.append(faults)?;
+        let faults = twice(self.alloc, self.text, &self.around, label);
+        self.note(faults)?;
         declare_label(&mut self.around, self.alloc, self.text, label)?;
         Ok(())
     }
@@ -282,7 +284,7 @@ impl<'a> Checker<'a> {
         ensures { OnOk result (self.new ≡ step (Event.Sensitive names.now) self.old) }
     {
         let told = names_here(self.alloc, self.text, &self.around, names)?;
-        let faults = sensitivity_faults(self.alloc, told)?;
+        let faults = sensitivity_faults(self.alloc, told);
         self.note(faults)
     }
 
@@ -304,8 +306,8 @@ impl<'a> Checker<'a> {
     ) -> Result<(), AllocError>
         ensures { OnOk result (self.new ≡ step (Event.EndProcess label.now end_name.now) self.old) }
     {
-        let faults = end_faults(self.alloc, self.text, *label, *end_name)?;
-        self.broken.append(faults)?;
+        let faults = end_faults(self.alloc, self.text, *label, *end_name);
+        self.note(faults)?;
         self.around.end_process(self.alloc);
         Ok(())
     }
@@ -328,7 +330,7 @@ impl<'a> Checker<'a> {
         let conditions = conditions(self.alloc, self.text, &self.around, alternatives, condition)?;
         let target = name_here(self.alloc, self.text, &self.around, target)?;
         let limit = reject(self.alloc, self.text, &self.around, delay)?;
-        let faults = signal_assignment_faults(self.alloc, target, limit, elements, conditions)?;
+        let faults = signal_assignment_faults(self.alloc, target, limit, elements, conditions);
         self.note(faults)
     }
 
@@ -339,7 +341,7 @@ impl<'a> Checker<'a> {
     {
         let target = name_here(self.alloc, self.text, &self.around, target)?;
         let value = expression(self.alloc, self.text, &self.around, value)?;
-        let faults = variable_assignment_faults(self.alloc, target, value)?;
+        let faults = variable_assignment_faults(self.alloc, target, value);
         self.note(faults)
     }
 
@@ -349,7 +351,7 @@ impl<'a> Checker<'a> {
         ensures { OnOk result (self.new ≡ step (Event.Waits wait.now) self.old) }
     {
         let told = wait_here(self.alloc, self.text, &self.around, wait)?;
-        let faults = wait_faults(self.alloc, self.around.is_listed(), told)?;
+        let faults = wait_faults(self.alloc, self.around.is_listed(), told);
         self.note(faults)
     }
 
@@ -361,7 +363,7 @@ impl<'a> Checker<'a> {
         let told = expression(self.alloc, self.text, &self.around, &assertion.condition)?;
         let faults = tested(self.alloc, told)?;
         let more = severity_faults(self.alloc, self.text, assertion.severity)?;
-        let faults = append(faults, more)?;
+        let faults = append(faults, more);
         self.note(faults)
     }
 
@@ -370,7 +372,7 @@ impl<'a> Checker<'a> {
     pub fn reported(&mut self, report: &Report) -> Result<(), AllocError>
         ensures { OnOk result (self.new ≡ step (Event.Reported report.now) self.old) }
     {
-        let faults = severity_faults(self.alloc, self.text, report.severity)?;
+        let faults = severity_faults(self.alloc, self.text, report.severity);
         self.note(faults)
     }
 
@@ -380,7 +382,7 @@ impl<'a> Checker<'a> {
         ensures { OnOk result (self.new ≡ step (Event.Tested condition.now) self.old) }
     {
         let told = expression(self.alloc, self.text, &self.around, condition)?;
-        let faults = tested(self.alloc, told)?;
+        let faults = tested(self.alloc, told);
         self.note(faults)
     }
 
@@ -393,7 +395,7 @@ impl<'a> Checker<'a> {
     ) -> Result<(), AllocError>
         ensures { OnOk result (self.new ≡ step (Event.EndIf label.now end_name.now) self.old) }
     {
-        let faults = end_faults(self.alloc, self.text, *label, *end_name)?;
+        let faults = end_faults(self.alloc, self.text, *label, *end_name);
         self.note(faults)
     }
 
@@ -404,8 +406,8 @@ impl<'a> Checker<'a> {
     {
         let told = expression(self.alloc, self.text, &self.around, subject)?;
         let base = subject_type(&told);
-        let faults = subject_faults(self.alloc, told)?;
-        self.broken.append(faults)?;
+        let faults = subject_faults(self.alloc, told);
+        self.note(faults)?;
         self.around.begin_case(base)?;
         Ok(())
     }
@@ -416,7 +418,7 @@ impl<'a> Checker<'a> {
         ensures { OnOk result (self.new ≡ step (Event.Arm is_last choices.now) self.old) }
     {
         let told = choices_here(self.alloc, self.text, &self.around, choices)?;
-        let faults = arm_faults(self.alloc, self.around.subject(), is_last, told)?;
+        let faults = arm_faults(self.alloc, self.around.subject(), is_last, told);
         self.note(faults)
     }
 
@@ -429,8 +431,8 @@ impl<'a> Checker<'a> {
     ) -> Result<(), AllocError>
         ensures { OnOk result (self.new ≡ step (Event.EndCase label.now end_name.now) self.old) }
     {
-        let faults = end_faults(self.alloc, self.text, *label, *end_name)?;
-        self.broken.append(faults)?;
+        let faults = end_faults(self.alloc, self.text, *label, *end_name);
+        self.note(faults)?;
         self.around.end_case();
         Ok(())
     }
@@ -441,7 +443,7 @@ impl<'a> Checker<'a> {
         ensures { OnOk result (self.new ≡ step (Event.Looped label.now scheme.now) self.old) }
     {
         let faults = begin_loop(&mut self.around, self.alloc, self.text, label, scheme)?;
-        self.note(faults)
+        self.note(Ok(faults))
     }
 
     /// The loop ends, with a name at its end or without.
@@ -454,8 +456,8 @@ impl<'a> Checker<'a> {
     ) -> Result<(), AllocError>
         ensures { OnOk result (self.new ≡ step (Event.EndLoop scheme.now label.now end_name.now) self.old) }
     {
-        let faults = end_faults(self.alloc, self.text, *label, *end_name)?;
-        self.broken.append(faults)?;
+        let faults = end_faults(self.alloc, self.text, *label, *end_name);
+        self.note(faults)?;
         leave_loop(&mut self.around, scheme);
         Ok(())
     }
@@ -467,7 +469,7 @@ impl<'a> Checker<'a> {
     {
         let is_inside = is_in_loop(self.alloc, self.text, &jump.label, &self.around)?;
         let condition = optional(self.alloc, self.text, &self.around, jump.condition.as_ref())?;
-        let faults = jump_faults(self.alloc, is_inside, jump_place(jump), condition)?;
+        let faults = jump_faults(self.alloc, is_inside, jump_place(jump), condition);
         self.note(faults)
     }
 
@@ -476,7 +478,7 @@ impl<'a> Checker<'a> {
     pub fn instance(&mut self, instance: &Instantiation) -> Result<(), AllocError>
         ensures { OnOk result (self.new ≡ step (Event.Instance instance.now) self.old) }
     {
-        let faults = instance_faults(self.alloc, self.text, self.file, &self.around, instance)?;
+        let faults = instance_faults(self.alloc, self.text, self.file, &self.around, instance);
         self.note(faults)
     }
 }

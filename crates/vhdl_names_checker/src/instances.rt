@@ -205,23 +205,11 @@ fn maps_faults(
     ensures { IfOk result (λ faults. faults ≡ spec.maps_faults text.now around.now interface.now instance.now) }
 {
     let formals = &interface.formals;
-    let generics = associations_here(
-        alloc,
-        text,
-        around,
-        true,
-        formals,
-        instance.generics.as_slice(),
-    )?;
-    let ports = associations_here(
-        alloc,
-        text,
-        around,
-        false,
-        formals,
-        instance.ports.as_slice(),
-    )?;
+    let generics = instance.generics.as_slice();
+    let generics = associations_here(alloc, text, around, true, formals, generics)?;
     let faults = map_faults(alloc, interface.generics.as_slice(), generics)?;
+    let ports = instance.ports.as_slice();
+    let ports = associations_here(alloc, text, around, false, formals, ports)?;
     append(
         faults,
         map_faults(alloc, interface.ports.as_slice(), ports)?,

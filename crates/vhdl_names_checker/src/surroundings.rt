@@ -19,7 +19,7 @@ use vhdl_names_typing::LiteralBounds;
 use vhdl_units::{BaseType, Class, Entry, Object};
 
 /// The label of a loop, if it has one.
-#[derive(Debug, Drop)]
+#[derive(Drop)]
 pub struct Label {
     name: Option<String>,
 }

@@ -5,7 +5,7 @@ ghost use Rattle.vhdl_names_meaning.specs.Names as spec;
 
 use crate::attributes::{attribute_type, is_bound};
 use crate::candidates::{Candidate, Denoted, Open, PartCandidate};
-use crate::settling::settle;
+use crate::settling::{settle, settle_both};
 use sqlite_items::{Boxed, Items};
 use std::alloc::{AllocError, Global};
 use vhdl_names_overloads::{Meanings, Types};
@@ -73,7 +73,10 @@ fn element_denoted(
             parts.push(PartValue::Index(index, is_static))?;
             Ok(Denoted::Object(object, parts, base, are_static && is_static))
         }
-        None => Ok(Denoted::Unknown),
+        None => {
+            drop(index);
+            Ok(Denoted::Unknown)
+        }
     }
 }
 
@@ -107,7 +110,10 @@ fn called(alloc: Global, function: Function, argument: Value) -> Result<Denoted,
                 false,
             ))
         }
-        Function::Now => Ok(Denoted::Unknown),
+        Function::Now => {
+            drop(argument);
+            Ok(Denoted::Unknown)
+        }
     }
 }
 
@@ -145,7 +151,11 @@ fn indexed(alloc: Global, denoted: Denoted, index: Candidate) -> Result<Denoted,
             called(alloc, function, argument)
         }
         Denoted::TypeAttribute(attribute, base) => of_type(alloc, attribute, base, index),
-        _ => Ok(Denoted::Unknown),
+        _ => {
+            drop(denoted);
+            drop(index);
+            Ok(Denoted::Unknown)
+        }
     }
 }
 
@@ -166,8 +176,7 @@ fn slice_part(
     ensures { IfOk result (λ v. v ≡ spec.slice_part left direction right) }
 {
     let are_static = both_static(&left, &right);
-    let left = settle(alloc, left, BaseType::Integer)?;
-    let right = settle(alloc, right, BaseType::Integer)?;
+    let (left, right) = settle_both(alloc, left, right, BaseType::Integer)?;
     Ok(PartValue::Slice(left, direction, right, are_static))
 }
 
@@ -187,6 +196,7 @@ fn slice_denoted(
         parts.push(part)?;
         Ok(Denoted::Object(object, parts, base, is_static))
     } else {
+        drop(part);
         Ok(Denoted::Unknown)
     }
 }
@@ -206,7 +216,11 @@ fn sliced(denoted: Denoted, are_static: bool, part: PartValue) -> Result<Denoted
                 part,
             )
         }
-        _ => Ok(Denoted::Unknown),
+        _ => {
+            drop(denoted);
+            drop(part);
+            Ok(Denoted::Unknown)
+        }
     }
 }
 
@@ -253,9 +267,15 @@ fn attributed(denoted: Denoted, attribute: Option<Attribute>) -> Denoted
                 object_attributed(attribute, object, parts, base)
             }
             Denoted::Subtype(base) => type_attributed(attribute, base),
-            _ => Denoted::Unknown,
+            _ => {
+                drop(denoted);
+                Denoted::Unknown
+            }
         },
-        None => Denoted::Unknown,
+        None => {
+            drop(denoted);
+            Denoted::Unknown
+        }
     }
 }
 
@@ -273,8 +293,13 @@ pub(crate) fn extended(
         PartCandidate::Index(index) => indexed(alloc, denoted, index),
         PartCandidate::Slice(left, direction, right) => {
             let are_static = both_static(&left, &right);
-            let part = slice_part(alloc, left, direction, right)?;
-            sliced(denoted, are_static, part)
+            match slice_part(alloc, left, direction, right) {
+                Ok(part) => sliced(denoted, are_static, part),
+                Err(error) => {
+                    drop(denoted);
+                    Err(error)
+                }
+            }
         }
         PartCandidate::Attribute(word) => Ok(attributed(denoted, attribute_of(text, word))),
     }
@@ -302,8 +327,13 @@ pub(crate) fn only_value(
 ) -> Result<Candidate, AllocError>
     ensures { IfOk result (λ v. v ≡ spec.only_value value base is_static) }
 {
-    let types = Types::one(alloc, base)?;
-    Ok(candidate_with(types, is_static, Open::Value(value)))
+    match Types::one(alloc, base) {
+        Ok(types) => Ok(candidate_with(types, is_static, Open::Value(value))),
+        Err(error) => {
+            drop(value);
+            Err(error)
+        }
+    }
 }
 
 /// What a name means in an expression, as far as its identifier and parts say.
@@ -322,7 +352,10 @@ pub fn candidate_of(alloc: Global, denoted: Denoted) -> Result<Candidate, AllocE
             only_value(alloc, value, base, is_static)
         }
         Denoted::Value(value, base, is_static) => only_value(alloc, value, base, is_static),
-        _ => Ok(candidate_with(Types::new(), false, Open::Value(Value::Unknown))),
+        _ => {
+            drop(denoted);
+            Ok(candidate_with(Types::new(), false, Open::Value(Value::Unknown)))
+        }
     }
 }
 
@@ -333,6 +366,9 @@ pub fn target_of(denoted: Denoted) -> Value
 {
     match denoted {
         Denoted::Object(object, parts, base, _) => Value::Object(reference(object, parts, base)),
-        _ => Value::Unknown,
+        _ => {
+            drop(denoted);
+            Value::Unknown
+        }
     }
 }

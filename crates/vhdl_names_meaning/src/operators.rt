@@ -27,9 +27,9 @@ pub(crate) fn unary(
 ) -> Result<Candidate, AllocError>
     ensures { IfOk result (λ v. v ≡ spec.unary operator operand) }
 {
-    let types = results_from(alloc, operator, &operand.types)?;
     let is_static = operand.is_static;
     let operand = Boxed::new(alloc, operand)?;
+    let types = results_from(alloc, operator, &operand.get().types)?;
     Ok(candidate_with(types, is_static, Open::Unary(operator, operand)))
 }
 
@@ -121,9 +121,9 @@ pub(crate) fn chain(
         [] => Ok(first),
         [link, ..] => {
             let relation = relation_of(link.operator, &first.types, &link.right.types);
-            let types = chain_types(alloc, &first.types, links.as_slice())?;
             let is_static = first.is_static && links_are_static(links.as_slice());
             let first = Boxed::new(alloc, first)?;
+            let types = chain_types(alloc, &first.get().types, links.as_slice())?;
             Ok(candidate_with(types, is_static, Open::Chain(relation, first, links)))
         }
     }
@@ -164,12 +164,17 @@ pub(crate) fn item(
     ensures { IfOk result (λ v. v ≡ spec.item choices value) }
 {
     let is_static = choices_are_static(choices.as_slice()) && value.is_static;
-    let choices = choices_at_integer(alloc, choices)?;
-    Ok(CandidateItem {
-        choices,
-        is_static,
-        value,
-    })
+    match choices_at_integer(alloc, choices) {
+        Ok(choices) => Ok(CandidateItem {
+            choices,
+            is_static,
+            value,
+        }),
+        Err(error) => {
+            drop(value);
+            Err(error)
+        }
+    }
 }
 
 #[tactic(auto, unfolding(crate::specs::Operators::item_types, vhdl_names_operators::specs::Literals::aggregates))]

@@ -4,7 +4,7 @@ ghost use Rattle.std.specs.Prelude.{◌≡◌, IfOk};
 ghost use Rattle.vhdl_names_meaning.specs.Ranges as spec;
 
 use crate::candidates::{ChoiceCandidate, Denoted, RangeCandidate};
-use crate::settling::settle;
+use crate::settling::{settle, settle_both};
 use std::alloc::{AllocError, Global};
 use vhdl_names_operators::common_discrete;
 use vhdl_units::{BaseType, ChoiceValue, RangeValue};
@@ -21,8 +21,7 @@ pub fn choice_at(
     match choice {
         ChoiceCandidate::Value(value) => Ok(ChoiceValue::Value(settle(alloc, value, base)?)),
         ChoiceCandidate::Range(left, direction, right) => {
-            let left = settle(alloc, left, base)?;
-            let right = settle(alloc, right, base)?;
+            let (left, right) = settle_both(alloc, left, right, base)?;
             Ok(ChoiceValue::Range(left, direction, right))
         }
         ChoiceCandidate::Others => Ok(ChoiceValue::Others),
@@ -46,7 +45,10 @@ fn range_of(denoted: Denoted) -> RangeValue
 {
     match denoted {
         Denoted::Range(reference) => RangeValue::Of(reference),
-        _ => RangeValue::Unknown,
+        _ => {
+            drop(denoted);
+            RangeValue::Unknown
+        }
     }
 }
 
@@ -61,8 +63,7 @@ pub fn range_at(
 {
     match range {
         RangeCandidate::Bounds(left, direction, right) => {
-            let left = settle(alloc, left, base)?;
-            let right = settle(alloc, right, base)?;
+            let (left, right) = settle_both(alloc, left, right, base)?;
             Ok(RangeValue::Bounds(left, direction, right))
         }
         RangeCandidate::Name(denoted) => Ok(range_of(denoted)),

@@ -73,15 +73,21 @@ fn shared(relation: Option<BaseType>, base: BaseType) -> BaseType
 }
 
 /// What an expression means where its place asks for this type.
+///
+/// A value of many variants is dropped by a call wherever it is no longer of use: a drop at the end of a scope is
+/// written out there, variant by variant, and one for each way to an `Err`.
 #[cycle(settle)]
 #[tactic(auto, unfolding(crate::specs::Settling::at_types))]
 pub fn settle(alloc: Global, candidate: Candidate, base: BaseType) -> Result<Value, AllocError>
     ensures { IfOk result (λ v. v ≡ spec.settled candidate base) }
 {
     let Candidate { types, form, .. } = candidate;
-    if has(&types, base) {
+    let is_possible = has(&types, base);
+    drop(types);
+    if is_possible {
         settle_open(alloc, form, base)
     } else {
+        drop(form);
         Ok(Value::Unknown)
     }
 }
@@ -102,8 +108,9 @@ fn settle_open(alloc: Global, form: Open, base: BaseType) -> Result<Value, Alloc
         Open::Chain(relation, first, links) => {
             let operands = shared(relation, base);
             let first = settle_operand(alloc, operands, first.into_inner())?;
+            let first = Boxed::new(alloc, first)?;
             let links = settle_links(alloc, links, operands)?;
-            Ok(Value::Chain(base, Boxed::new(alloc, first)?, links))
+            Ok(Value::Chain(base, first, links))
         }
         Open::Aggregate(items) => {
             let items = settle_items(alloc, items, element_or(base.element()))?;
@@ -173,4 +180,28 @@ fn settle_item(alloc: Global, item: CandidateItem, base: BaseType) -> Result<Ite
     let CandidateItem { choices, value, .. } = item;
     let value = settle(alloc, value, base)?;
     Ok(ItemValue { choices, value })
+}
+
+/// What both of two expressions mean where their place asks for one type.
+pub(crate) fn settle_both(
+    alloc: Global,
+    left: Candidate,
+    right: Candidate,
+    base: BaseType,
+) -> Result<(Value, Value), AllocError>
+    ensures { IfOk result (λ v. v ≡ (spec.settled left base, spec.settled right base)) }
+{
+    match settle(alloc, left, base) {
+        Ok(left) => match settle(alloc, right, base) {
+            Ok(right) => Ok((left, right)),
+            Err(error) => {
+                drop(left);
+                Err(error)
+            }
+        },
+        Err(error) => {
+            drop(right);
+            Err(error)
+        }
+    }
 }

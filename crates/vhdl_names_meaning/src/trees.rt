@@ -41,8 +41,13 @@ pub fn candidate(
         }
         Expr::Chain(_, first, links) => {
             let first = candidate(alloc, text, regions, first.get())?;
-            let links = link_candidates(alloc, text, regions, links.as_slice())?;
-            chain(alloc, first, links)
+            match link_candidates(alloc, text, regions, links.as_slice()) {
+                Ok(links) => chain(alloc, first, links),
+                Err(error) => {
+                    drop(first);
+                    Err(error)
+                }
+            }
         }
         Expr::Aggregate(_, items) => {
             let items = item_candidates(alloc, text, regions, items.as_slice())?;
@@ -145,8 +150,13 @@ pub fn choice_candidate(
         }
         Choice::Range(left, direction, right) => {
             let left = candidate(alloc, text, regions, left)?;
-            let right = candidate(alloc, text, regions, right)?;
-            Ok(ChoiceCandidate::Range(left, *direction, right))
+            match candidate(alloc, text, regions, right) {
+                Ok(right) => Ok(ChoiceCandidate::Range(left, *direction, right)),
+                Err(error) => {
+                    drop(left);
+                    Err(error)
+                }
+            }
         }
         Choice::Others(_) => Ok(ChoiceCandidate::Others),
     }
@@ -180,8 +190,13 @@ fn denote_parts(
 {
     let mut so_far = first;
     for part in parts {
-        let part = part_candidate(alloc, text, regions, part)?;
-        so_far = extended(alloc, text, so_far, part)?;
+        match part_candidate(alloc, text, regions, part) {
+            Ok(part) => so_far = extended(alloc, text, so_far, part)?,
+            Err(error) => {
+                drop(so_far);
+                return Err(error);
+            }
+        }
     }
     Ok(so_far)
 }
@@ -199,8 +214,13 @@ fn part_candidate(
         Part::Index(index) => Ok(PartCandidate::Index(candidate(alloc, text, regions, index)?)),
         Part::Slice(left, direction, right) => {
             let left = candidate(alloc, text, regions, left)?;
-            let right = candidate(alloc, text, regions, right)?;
-            Ok(PartCandidate::Slice(left, *direction, right))
+            match candidate(alloc, text, regions, right) {
+                Ok(right) => Ok(PartCandidate::Slice(left, *direction, right)),
+                Err(error) => {
+                    drop(left);
+                    Err(error)
+                }
+            }
         }
         Part::Attribute(word) => Ok(PartCandidate::Attribute(*word)),
     }
@@ -218,8 +238,13 @@ pub fn range_candidate(
     match bounds {
         Bounds::Range(left, direction, right) => {
             let left = candidate(alloc, text, regions, left)?;
-            let right = candidate(alloc, text, regions, right)?;
-            Ok(RangeCandidate::Bounds(left, *direction, right))
+            match candidate(alloc, text, regions, right) {
+                Ok(right) => Ok(RangeCandidate::Bounds(left, *direction, right)),
+                Err(error) => {
+                    drop(left);
+                    Err(error)
+                }
+            }
         }
         Bounds::Name(name) => Ok(RangeCandidate::Name(denote(alloc, text, regions, name)?)),
     }

@@ -37,7 +37,6 @@ pub struct ResolvedType {
 }
 
 /// Objects that are declared together (6.4.2, 6.5).
-#[derive(Drop)]
 pub struct ResolvedObjects {
     pub class: Class,
     pub declared: Items<Declared>,
@@ -46,12 +45,40 @@ pub struct ResolvedObjects {
     pub initial: Option<Value>,
 }
 
+impl Drop for ResolvedObjects {
+    fn drop(self) {
+        let ResolvedObjects {
+            class: _,
+            declared,
+            subtype,
+            base: _,
+            initial,
+        } = self;
+        drop(declared);
+        drop(subtype);
+        drop(initial);
+    }
+}
+
 /// A declaration of an architecture or of a process.
-#[derive(Drop)]
 pub enum ResolvedDeclaration {
     Type(ResolvedType),
     Subtype(Declared, ResolvedSubtype),
     Objects(ResolvedObjects),
     /// The attribute FOREIGN of the architecture (20.2).
     Foreign(Value),
+}
+
+impl Drop for ResolvedDeclaration {
+    fn drop(self) {
+        match self {
+            ResolvedDeclaration::Type(enumeration) => drop(enumeration),
+            ResolvedDeclaration::Subtype(name, subtype) => {
+                drop(name);
+                drop(subtype);
+            }
+            ResolvedDeclaration::Objects(objects) => drop(objects),
+            ResolvedDeclaration::Foreign(value) => drop(value),
+        }
+    }
 }

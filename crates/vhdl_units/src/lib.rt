@@ -7,6 +7,7 @@ mod base_type;
 mod declarations;
 mod entry;
 mod fault;
+mod held;
 mod statements;
 mod units;
 mod values;
@@ -18,6 +19,7 @@ pub use declarations::{
 };
 pub use entry::{Class, Entry, Function, Mark, Object, TimeUnit};
 pub use fault::{Fault, Rule};
+pub use held::Held;
 pub use statements::{
     ResolvedArm, ResolvedAssertion, ResolvedAssignment, ResolvedBody, ResolvedCase, ResolvedDelay,
     ResolvedElement, ResolvedElsif, ResolvedIf, ResolvedJump, ResolvedLoop, ResolvedReport,

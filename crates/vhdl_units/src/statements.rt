@@ -42,19 +42,38 @@ pub enum ResolvedBody {
 }
 
 /// A wait statement (10.2). Without `on` there are no names.
-#[derive(Drop)]
 pub struct ResolvedWait {
     pub on: Items<Value>,
     pub until: Option<Value>,
     pub time: Option<Value>,
 }
 
+impl Drop for ResolvedWait {
+    fn drop(self) {
+        let ResolvedWait { on, until, time } = self;
+        drop(on);
+        drop(until);
+        drop(time);
+    }
+}
+
 /// An assertion (10.3), with its text where it has one.
-#[derive(Drop)]
 pub struct ResolvedAssertion {
     pub condition: Value,
     pub text: Option<Items<u8>>,
     pub severity: Severity,
+}
+
+impl Drop for ResolvedAssertion {
+    fn drop(self) {
+        let ResolvedAssertion {
+            condition,
+            text,
+            severity: _,
+        } = self;
+        drop(condition);
+        drop(text);
+    }
 }
 
 /// A report (10.4).
@@ -65,7 +84,6 @@ pub struct ResolvedReport {
 }
 
 /// How a delay is meant (10.5.2.1).
-#[derive(Drop)]
 pub enum ResolvedDelay {
     Inertial,
     /// Inertial, with a limit of its own for what is rejected.
@@ -73,19 +91,48 @@ pub enum ResolvedDelay {
     Transport,
 }
 
+impl Drop for ResolvedDelay {
+    fn drop(self) {
+        match self {
+            ResolvedDelay::Inertial => {}
+            ResolvedDelay::Reject(limit) => drop(limit),
+            ResolvedDelay::Transport => {}
+        }
+    }
+}
+
 /// An element of a waveform (10.5.2.1): a value, and the delay after which it is to come.
-#[derive(Drop)]
 pub struct ResolvedElement {
     pub value: Value,
     pub after: Option<Value>,
 }
 
+impl Drop for ResolvedElement {
+    fn drop(self) {
+        let ResolvedElement { value, after } = self;
+        drop(value);
+        drop(after);
+    }
+}
+
 /// A signal assignment (10.5).
-#[derive(Drop)]
 pub struct ResolvedAssignment {
     pub target: Value,
     pub delay: ResolvedDelay,
     pub waveform: Items<ResolvedElement>,
+}
+
+impl Drop for ResolvedAssignment {
+    fn drop(self) {
+        let ResolvedAssignment {
+            target,
+            delay,
+            waveform,
+        } = self;
+        drop(target);
+        drop(delay);
+        drop(waveform);
+    }
 }
 
 /// An if statement (10.8). Without `else` it has no other statements.
@@ -123,12 +170,24 @@ pub struct ResolvedArm {
 }
 
 /// How often a loop runs (10.10).
-#[derive(Drop)]
 pub enum ResolvedScheme {
     Forever,
     While(Value),
     /// The loop parameter, its type and its range.
     For(Declared, BaseType, RangeValue),
+}
+
+impl Drop for ResolvedScheme {
+    fn drop(self) {
+        match self {
+            ResolvedScheme::Forever => {}
+            ResolvedScheme::While(condition) => drop(condition),
+            ResolvedScheme::For(parameter, _, range) => {
+                drop(parameter);
+                drop(range);
+            }
+        }
+    }
 }
 
 /// A loop (10.10).
@@ -140,10 +199,19 @@ pub struct ResolvedLoop {
 }
 
 /// A next or exit statement (10.11, 10.12).
-#[derive(Drop)]
 pub struct ResolvedJump {
     /// How many of the loops around stand between the statement and the loop that is meant: 0 is the
     /// innermost.
     pub loops: usize,
     pub condition: Option<Value>,
+}
+
+impl Drop for ResolvedJump {
+    fn drop(self) {
+        let ResolvedJump {
+            loops: _,
+            condition,
+        } = self;
+        drop(condition);
+    }
 }

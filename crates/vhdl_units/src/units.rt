@@ -33,7 +33,6 @@ pub struct ResolvedAlternative {
 
 /// A concurrent signal assignment (11.6): a waveform, then `when` a condition `else` the next one, and at the
 /// end a condition that may stand alone.
-#[derive(Drop)]
 pub struct ResolvedConcurrentAssignment {
     pub postponed: bool,
     pub target: Value,
@@ -41,6 +40,24 @@ pub struct ResolvedConcurrentAssignment {
     pub waveform: Items<ResolvedElement>,
     pub alternatives: Items<ResolvedAlternative>,
     pub condition: Option<Value>,
+}
+
+impl Drop for ResolvedConcurrentAssignment {
+    fn drop(self) {
+        let ResolvedConcurrentAssignment {
+            postponed: _,
+            target,
+            delay,
+            waveform,
+            alternatives,
+            condition,
+        } = self;
+        drop(target);
+        drop(delay);
+        drop(waveform);
+        drop(alternatives);
+        drop(condition);
+    }
 }
 
 /// What a formal stands for.

@@ -98,11 +98,23 @@ pub enum ChoiceValue {
 }
 
 /// A discrete range (5.3.2.1).
-#[derive(Drop)]
 pub enum RangeValue {
     /// It has no meaning, so that a static rule is broken.
     Unknown,
     Bounds(Value, Direction, Value),
     /// The range of an array's index.
     Of(Reference),
+}
+
+impl Drop for RangeValue {
+    fn drop(self) {
+        match self {
+            RangeValue::Unknown => {}
+            RangeValue::Bounds(left, _, right) => {
+                drop(left);
+                drop(right);
+            }
+            RangeValue::Of(reference) => drop(reference),
+        }
+    }
 }

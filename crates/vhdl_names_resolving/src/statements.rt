@@ -23,7 +23,7 @@ use vhdl_tree::{
     Report, Scheme, Sensitivity, SignalAssignment, VariableAssignment, Wait,
 };
 use vhdl_units::{
-    BaseType, ChoiceValue, ResolvedAlternative, ResolvedAssertion, ResolvedAssignment,
+    BaseType, ChoiceValue, Held, ResolvedAlternative, ResolvedAssertion, ResolvedAssignment,
     ResolvedBody, ResolvedConcurrentAssignment, ResolvedDelay, ResolvedElement, ResolvedJump,
     ResolvedReport, ResolvedScheme, ResolvedSensitivity, ResolvedWait, Severity, Value,
 };
@@ -109,10 +109,16 @@ pub fn assertion_resolved(
 ) -> Result<ResolvedAssertion, AllocError>
     ensures { IfOk result (λ v. v ≡ spec.assertion_resolved text.now around.now assertion.now) }
 {
-    let condition = value_at(alloc, text, around, BaseType::Boolean, &assertion.condition)?;
+    let condition = Held::new(value_at(
+        alloc,
+        text,
+        around,
+        BaseType::Boolean,
+        &assertion.condition,
+    )?);
     let message = optional_string(alloc, text, &assertion.text)?;
     Ok(ResolvedAssertion {
-        condition,
+        condition: condition.into_inner(),
         text: message,
         severity: severity_of(text, Severity::Error, &assertion.severity),
     })
@@ -131,9 +137,19 @@ pub fn wait_resolved(
     ensures { IfOk result (λ v. v ≡ spec.wait_resolved text.now around.now wait.now) }
 {
     let on = targets_here(alloc, text, around, wait.on.as_slice())?;
-    let until = optional_at(alloc, text, around, BaseType::Boolean, wait.until.as_ref())?;
+    let until = Held::new(optional_at(
+        alloc,
+        text,
+        around,
+        BaseType::Boolean,
+        wait.until.as_ref(),
+    )?);
     let time = optional_at(alloc, text, around, BaseType::Time, wait.time.as_ref())?;
-    Ok(ResolvedWait { on, until, time })
+    Ok(ResolvedWait {
+        on,
+        until: until.into_inner(),
+        time,
+    })
 }
 
 // ---- next and exit
@@ -229,9 +245,12 @@ fn element_resolved(
 ) -> Result<ResolvedElement, AllocError>
     ensures { IfOk result (λ v. v ≡ spec.element_resolved text.now around.now base element.now) }
 {
-    let value = value_at(alloc, text, around, base, &element.value)?;
+    let value = Held::new(value_at(alloc, text, around, base, &element.value)?);
     let after = optional_at(alloc, text, around, BaseType::Time, element.after.as_ref())?;
-    Ok(ResolvedElement { value, after })
+    Ok(ResolvedElement {
+        value: value.into_inner(),
+        after,
+    })
 }
 
 #[tactic(auto, unfolding(crate::specs::Statements::waveform_resolved))]
@@ -262,10 +281,11 @@ fn assignment_to(
 ) -> Result<ResolvedAssignment, AllocError>
     ensures { IfOk result (λ v. v ≡ spec.assignment_to text.now around.now target delay.now waveform.now) }
 {
+    let target = Held::new(target);
     let delay = delay_resolved(alloc, text, around, delay)?;
-    let waveform = waveform_resolved(alloc, text, around, target_type(&target), waveform)?;
+    let waveform = waveform_resolved(alloc, text, around, target_type(target.get()), waveform)?;
     Ok(ResolvedAssignment {
-        target: target_of(target),
+        target: target_of(target.into_inner()),
         delay,
         waveform,
     })
@@ -296,8 +316,9 @@ fn variable_to(
 ) -> Result<ResolvedBody, AllocError>
     ensures { IfOk result (λ v. v ≡ spec.variable_to text.now around.now target value.now) }
 {
-    let value = value_at(alloc, text, around, target_type(&target), value)?;
-    Ok(ResolvedBody::Variable(target_of(target), value))
+    let target = Held::new(target);
+    let value = value_at(alloc, text, around, target_type(target.get()), value)?;
+    Ok(ResolvedBody::Variable(target_of(target.into_inner()), value))
 }
 
 /// What a variable assignment does here (10.6).
@@ -324,16 +345,16 @@ fn alternative_resolved(
 ) -> Result<ResolvedAlternative, AllocError>
     ensures { IfOk result (λ v. v ≡ spec.alternative_resolved text.now around.now base alternative.now) }
 {
-    let condition = value_at(
+    let condition = Held::new(value_at(
         alloc,
         text,
         around,
         BaseType::Boolean,
         &alternative.condition,
-    )?;
+    )?);
     let otherwise = waveform_resolved(alloc, text, around, base, alternative.otherwise.as_slice())?;
     Ok(ResolvedAlternative {
-        condition,
+        condition: condition.into_inner(),
         otherwise,
     })
 }
@@ -365,6 +386,7 @@ fn concurrent_to(
     ensures { IfOk result (λ v. v ≡ spec.concurrent_to text.now around.now target assignment.now) }
 {
     let base = target_type(&target);
+    let target = Held::new(target);
     let delay = delay_resolved(alloc, text, around, &assignment.delay)?;
     let waveform = waveform_resolved(alloc, text, around, base, assignment.waveform.as_slice())?;
     let alternatives = alternatives_resolved(
@@ -383,7 +405,7 @@ fn concurrent_to(
     )?;
     Ok(ResolvedConcurrentAssignment {
         postponed: assignment.postponed,
-        target: target_of(target),
+        target: target_of(target.into_inner()),
         delay,
         waveform,
         alternatives,
@@ -458,8 +480,9 @@ fn loop_over(
 ) -> Result<ResolvedScheme, AllocError>
     ensures { IfOk result (λ v. v ≡ spec.loop_over text.now around.now token.now base range) }
 {
+    let range = Held::new(range);
     let parameter = declared(alloc, text, around.next_number(), token)?;
-    let bounds = range_at(alloc, base, range)?;
+    let bounds = range_at(alloc, base, range.into_inner())?;
     Ok(ResolvedScheme::For(parameter, base, bounds))
 }
 
@@ -491,9 +514,9 @@ fn for_resolved(
 ) -> Result<ResolvedScheme, AllocError>
     ensures { IfOk result (λ v. v ≡ spec.for_resolved text.now around.now token.now (values.range_here text.now around.now bounds.now)) }
 {
-    let range = range_here(alloc, text, around, bounds)?;
-    let base = type_or_integer(loop_base(alloc, text, around, bounds, &range)?);
-    loop_over(alloc, text, around, token, base, range)
+    let range = Held::new(range_here(alloc, text, around, bounds)?);
+    let base = type_or_integer(loop_base(alloc, text, around, bounds, range.get())?);
+    loop_over(alloc, text, around, token, base, range.into_inner())
 }
 
 /// How often a loop runs that begins here (10.10).

@@ -4,7 +4,9 @@ ghost use Rattle.std.specs.Prelude.{◌≡◌, ℕ, IfOk, List, Option};
 ghost use Rattle.vhdl_names.specs.Static.{is_before, Static};
 ghost use Rattle.vhdl_names.specs.First.{earlier, IsFirst};
 ghost use Rattle.vhdl_names.specs.Resolved.{Resolved};
-ghost use Rattle.vhdl_names.specs.Units.{units_of};
+ghost use Rattle.vhdl_names.specs.Parts.{all_at, events_of};
+ghost use Rattle.vhdl_names.specs.Units.{of_units, units_of};
+ghost use Rattle.vhdl_names_checker.specs.Progress.{walk};
 ghost use Rattle.vhdl_tree.specs.declared.units.DesignFile.{DesignFile};
 ghost use Rattle.vhdl_units.specs.declared.fault.Fault.{Fault};
 
@@ -13,7 +15,7 @@ use crate::units::check_units;
 use std::alloc::{AllocError, Global};
 use vhdl_names_checker::Checker;
 use vhdl_tree::DesignFile;
-use vhdl_units::{Fault, Units};
+use vhdl_units::{Fault, Held, Units};
 
 #[tactic(auto, unfolding(crate::specs::Static::is_before))]
 fn is_before(fault: &Fault, other: &Fault) -> bool
@@ -59,6 +61,20 @@ pub enum StaticError {
     NoMemory,
 }
 
+/// The units of a design file as far as they have a meaning, and the rule that is broken first on the way along it.
+fn units_along(
+    checker: &mut Checker<'_>,
+    text: &[u8],
+    tree: &DesignFile,
+) -> Result<(Units, Option<Fault>), AllocError>
+    ensures fault { IfOk result (λ found. IsFirst (walk (events_of (of_units text.now tree.now.units)) checker.old).broken found.1) }
+    ensures units { IfOk result (λ found. found.0.units ≡ all_at (of_units text.now tree.now.units) checker.old) }
+{
+    let units = check_units(checker, text, tree.units.as_slice())?;
+    let first = first_of(checker.broken());
+    Ok((Units { units }, first))
+}
+
 /// The units of a design file as far as they have a meaning, and the rule that it breaks first.
 fn units_and_fault(
     alloc: Global,
@@ -69,10 +85,18 @@ fn units_and_fault(
     ensures units { IfOk result (λ found. found.0 ≡ units_of text.now tree.now) }
 {
     let file = architectures(alloc, text, tree)?;
-    let mut checker = Checker::new(alloc, text, &file)?;
-    let units = check_units(&mut checker, text, tree.units.as_slice())?;
-    let first = first_of(checker.broken());
-    Ok((Units { units }, first))
+    let file = Held::new(file);
+    let mut checker = Checker::new(alloc, text, file.get())?;
+    match units_along(&mut checker, text, tree) {
+        Ok(found) => {
+            drop(checker);
+            Ok(found)
+        }
+        Err(error) => {
+            drop(checker);
+            Err(error)
+        }
+    }
 }
 
 /// Gives the names of a design file their meanings: its units, with what each name denotes, the type of each

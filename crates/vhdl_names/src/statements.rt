@@ -19,7 +19,7 @@ use vhdl_tree::{
     SignalAssignment, Statement, VariableAssignment, Wait,
 };
 use vhdl_units::{
-    BaseType, ChoiceValue, Declared, ResolvedArm, ResolvedBody, ResolvedCase, ResolvedElsif,
+    BaseType, ChoiceValue, Declared, Held, ResolvedArm, ResolvedBody, ResolvedCase, ResolvedElsif,
     ResolvedIf, ResolvedLoop, ResolvedScheme, ResolvedStatement, Value,
 };
 
@@ -256,13 +256,14 @@ fn check_if(
     ensures meaning { IfOk result (λ v. v ≡ (spec.of_if statement.now label.now).at checker.old) }
 {
     let condition = condition(checker, &statement.condition)?;
+    let condition = Held::new(condition);
     checker.tested(&statement.condition)?;
     let statements = check_statements(checker, statement.statements.as_slice())?;
     let elsifs = check_elsifs(checker, statement.elsifs.as_slice())?;
     let otherwise = check_statements(checker, statement.otherwise.as_slice())?;
     checker.end_if(label, &statement.end_name)?;
     Ok(ResolvedIf {
-        condition,
+        condition: condition.into_inner(),
         statements,
         elsifs,
         otherwise,
@@ -290,10 +291,11 @@ fn check_elsif(checker: &mut Checker<'_>, elsif: &Elsif) -> Result<ResolvedElsif
     ensures meaning { IfOk result (λ v. v ≡ (spec.of_elsif elsif.now).at checker.old) }
 {
     let condition = condition(checker, &elsif.condition)?;
+    let condition = Held::new(condition);
     checker.tested(&elsif.condition)?;
     let statements = check_statements(checker, elsif.statements.as_slice())?;
     Ok(ResolvedElsif {
-        condition,
+        condition: condition.into_inner(),
         statements,
     })
 }
@@ -309,9 +311,13 @@ fn check_case(
 {
     checker.chosen(&statement.subject)?;
     let subject = subject(checker, &statement.subject)?;
+    let subject = Held::new(subject);
     let arms = check_arms(checker, statement.arms.as_slice())?;
     checker.end_case(label, &statement.end_name)?;
-    Ok(ResolvedCase { subject, arms })
+    Ok(ResolvedCase {
+        subject: subject.into_inner(),
+        arms,
+    })
 }
 
 #[cycle(statement)]

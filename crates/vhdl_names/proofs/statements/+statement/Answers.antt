@@ -1,4 +1,4 @@
-use Rattle.std.proofs.Common.{arith, refl}
+use Rattle.std.proofs.Common.{arith, refl, ◌∙◌}
 use Rattle.vhdl_names_checker.specs.Progress.{walk}
 use Rattle.vhdl_names.specs.Statements.{case_body, if_body, loop_body, of_elsif, of_label, of_null, of_statement, of_statements}
 use Rattle.vhdl_names.proofs.Parts.{arm_part, arms_end, arms_turn, assertion_is, case_is, case_part, elsif_part, exit_is, if_is, if_part, loop_is, loop_part, next_is, null_is, report_is, signal_is, statement_part, variable_is, wait_is}
@@ -94,7 +94,7 @@ check_if-returns-clause-walk t c = (if_part c.args.statement.now c.args.label.no
     c.as_slice-3.ensures c.in_ok-otherwise.ensures.walk c.in_ok-otherwise.ensures.meaning c.in_ok-end_if.ensures).0
 
 pub check_if-returns-clause-meaning : goal.check_if-returns-clause-meaning
-check_if-returns-clause-meaning t c = (if_part c.args.statement.now c.args.label.now _ c.in_ok-condition.ensures c.in_ok-tested.ensures
+check_if-returns-clause-meaning t c = (if_part c.args.statement.now c.args.label.now _ (c.into_inner.ensures ∙ (c.new-condition.ensures ∙ c.in_ok-condition.ensures)) c.in_ok-tested.ensures
     c.as_slice.ensures c.in_ok-statements.ensures.walk c.in_ok-statements.ensures.meaning
     c.as_slice-2.ensures c.in_ok-elsifs.ensures.walk c.in_ok-elsifs.ensures.meaning
     c.as_slice-3.ensures c.in_ok-otherwise.ensures.walk c.in_ok-otherwise.ensures.meaning c.in_ok-end_if.ensures).1
@@ -103,13 +103,13 @@ pub check_elsif-returns-clause-walk : goal.check_elsif-returns-clause-walk
 check_elsif-returns-clause-walk t c = (elsif_part c.args.elsif.now _ c.in_ok-condition.ensures c.in_ok-tested.ensures c.as_slice.ensures c.in_ok-statements.ensures.walk c.in_ok-statements.ensures.meaning).0
 
 pub check_elsif-returns-clause-meaning : goal.check_elsif-returns-clause-meaning
-check_elsif-returns-clause-meaning t c = (elsif_part c.args.elsif.now _ c.in_ok-condition.ensures c.in_ok-tested.ensures c.as_slice.ensures c.in_ok-statements.ensures.walk c.in_ok-statements.ensures.meaning).1
+check_elsif-returns-clause-meaning t c = (elsif_part c.args.elsif.now _ (c.into_inner.ensures ∙ (c.new-condition.ensures ∙ c.in_ok-condition.ensures)) c.in_ok-tested.ensures c.as_slice.ensures c.in_ok-statements.ensures.walk c.in_ok-statements.ensures.meaning).1
 
 pub check_case-returns-clause-walk : goal.check_case-returns-clause-walk
 check_case-returns-clause-walk t c = (case_part c.args.statement.now c.args.label.now _ c.in_ok-chosen.ensures c.in_ok-subject.ensures c.as_slice.ensures c.in_ok-arms.ensures.walk c.in_ok-arms.ensures.meaning c.in_ok-end_case.ensures).0
 
 pub check_case-returns-clause-meaning : goal.check_case-returns-clause-meaning
-check_case-returns-clause-meaning t c = (case_part c.args.statement.now c.args.label.now _ c.in_ok-chosen.ensures c.in_ok-subject.ensures c.as_slice.ensures c.in_ok-arms.ensures.walk c.in_ok-arms.ensures.meaning c.in_ok-end_case.ensures).1
+check_case-returns-clause-meaning t c = (case_part c.args.statement.now c.args.label.now _ c.in_ok-chosen.ensures (c.into_inner.ensures ∙ (c.new-subject.ensures ∙ c.in_ok-subject.ensures)) c.as_slice.ensures c.in_ok-arms.ensures.walk c.in_ok-arms.ensures.meaning c.in_ok-end_case.ensures).1
 
 pub check_arm-returns-clause-walk : goal.check_arm-returns-clause-walk
 check_arm-returns-clause-walk t c = (arm_part c.args.arm.now c.args.is_last _ c.as_slice.ensures c.in_ok-choices.ensures c.as_slice-2.ensures c.in_ok-arm.ensures c.as_slice-3.ensures c.in_ok-statements.ensures.walk c.in_ok-statements.ensures.meaning).0

@@ -1,0 +1,84 @@
+//! A file of cases: its kind, and its cases one after the other.
+
+use crate::blocks::try_blocks;
+use crate::kinds::{Kind, kind_of};
+use crate::regions::try_steps;
+use crate::report::{Place, Report};
+use crate::rows::try_row;
+use crate::trouble::Trouble;
+use std::alloc::Global;
+
+/// Whether a line says something, and isn't the one that says the kind.
+pub fn is_said(line: &str) -> bool {
+    !line.is_empty() && !line.starts_with("#") && !line.starts_with("kind ")
+}
+
+/// The kind of the file. There is one line that says it.
+fn file_kind(text: &str) -> Option<Kind> {
+    let mut found = None;
+    for line in text.lines() {
+        if let Some(word) = line.strip_prefix("kind ") {
+            if found.is_some() {
+                return None;
+            }
+            found = Some(word);
+        }
+    }
+    kind_of(found?)
+}
+
+fn try_rows(
+    alloc: Global,
+    kind: Kind,
+    file: &str,
+    text: &str,
+    report: &mut Report,
+) -> Result<(), Trouble> {
+    let mut number = 0usize;
+    for line in text.lines() {
+        number = number.saturating_add(1);
+        if is_said(line) {
+            let place = Place {
+                file,
+                line: number,
+                text: line,
+            };
+            let tried = try_row(alloc, kind, place, report);
+            report.settle(place, tried)?;
+        }
+    }
+    Ok(())
+}
+
+fn try_cases(
+    alloc: Global,
+    file: &str,
+    text: &str,
+    report: &mut Report,
+) -> Result<(), Trouble> {
+    match file_kind(text).ok_or(Trouble::Malformed)? {
+        kind @ (Kind::Calls | Kind::Units | Kind::Contents) => {
+            try_blocks(alloc, kind, file, text, report)
+        }
+        Kind::Regions => try_steps(alloc, file, text, report),
+        kind => try_rows(alloc, kind, file, text, report),
+    }
+}
+
+/// Tries all cases of a file.
+pub fn try_file(alloc: Global, name: &[u8], bytes: &[u8]) -> Result<Report, Trouble> {
+    let mut report = Report::new(alloc);
+    let file = std::str::from_utf8(name).unwrap_or("?");
+    let place = Place {
+        file,
+        line: 1,
+        text: "",
+    };
+    let tried = match std::str::from_utf8(bytes) {
+        Ok(text) => try_cases(alloc, file, text, &mut report),
+        Err(_) => Err(Trouble::Malformed),
+    };
+    report.settle(place, tried)?;
+    report.finish(file.strip_suffix(".txt").unwrap_or(file))?;
+    Ok(report)
+}

@@ -100,7 +100,9 @@ fn words_of(alloc: Global, written: &str) -> Result<Vec<Name>, Trouble> {
     let mut words = Vec::new(alloc);
     for word in written.split_whitespace() {
         let bytes = bytes_of(alloc, word)?;
-        let word = std::str::from_utf8(bytes.as_slice()).ok().ok_or(Trouble::Malformed)?;
+        let word = std::str::from_utf8(bytes.as_slice())
+            .ok()
+            .ok_or(Trouble::Malformed)?;
         words.push(name(alloc, word)?)?;
     }
     Ok(words)
@@ -149,7 +151,12 @@ fn compare_call(
     let asked = came.times_asked();
     let asked = format!(in alloc; "{asked}")?;
     let asked_wanted = asked_wanted(wanted.status);
-    report.compare(place, "number of files asked for", asked_wanted.as_bytes(), asked.as_bytes())?;
+    report.compare(
+        place,
+        "number of files asked for",
+        asked_wanted.as_bytes(),
+        asked.as_bytes(),
+    )?;
     if came.has_saved() {
         report.compare(place, "saved file", b"none", b"one")?;
     }
@@ -157,7 +164,9 @@ fn compare_call(
     Ok(())
 }
 
-const CALL_WORDS: [&str; 8] = ["words", "file", "out", "front", "err", "status", "piece", "fails"];
+const CALL_WORDS: [&str; 8] = [
+    "words", "file", "out", "front", "err", "status", "piece", "fails",
+];
 
 /// The numbers of the host calls that fail, each in a call of its own, or 0 for none.
 fn fails_of<'a>(block: &Block<'a>) -> &'a str {

@@ -2,10 +2,11 @@
 
 use crate::blocks::try_blocks;
 use crate::kinds::{Kind, kind_of};
-use crate::regions::try_steps;
 use crate::report::{Place, Report};
 use crate::rows::try_row;
+use crate::state::State;
 use crate::trouble::Trouble;
+use sim_host::Host;
 use std::alloc::Global;
 
 /// Whether a line says something, and isn't the one that says the kind.
@@ -27,11 +28,13 @@ fn file_kind(text: &str) -> Option<Kind> {
     kind_of(found?)
 }
 
-fn try_rows(
+fn try_rows<H: Host>(
     alloc: Global,
+    host: &mut H,
     kind: Kind,
     file: &str,
     text: &str,
+    state: &mut State,
     report: &mut Report,
 ) -> Result<(), Trouble> {
     let mut number = 0usize;
@@ -43,30 +46,35 @@ fn try_rows(
                 line: number,
                 text: line,
             };
-            let tried = try_row(alloc, kind, place, report);
+            let tried = try_row(alloc, host, kind, place, state, report);
             report.settle(place, tried)?;
         }
     }
     Ok(())
 }
 
-fn try_cases(
+fn try_cases<H: Host>(
     alloc: Global,
+    host: &mut H,
     file: &str,
     text: &str,
     report: &mut Report,
 ) -> Result<(), Trouble> {
-    match file_kind(text).ok_or(Trouble::Malformed)? {
-        kind @ (Kind::Calls | Kind::Units | Kind::Contents) => {
-            try_blocks(alloc, kind, file, text, report)
-        }
-        Kind::Regions => try_steps(alloc, file, text, report),
-        kind => try_rows(alloc, kind, file, text, report),
+    let kind = file_kind(text).ok_or(Trouble::Malformed)?;
+    if kind.has_blocks() {
+        return try_blocks(alloc, kind, file, text, report);
     }
+    let mut state = State::new(alloc)?;
+    try_rows(alloc, host, kind, file, text, &mut state, report)
 }
 
-/// Tries all cases of a file.
-pub fn try_file(alloc: Global, name: &[u8], bytes: &[u8]) -> Result<Report, Trouble> {
+/// Tries all cases of a file. `host` has the real files.
+pub fn try_file<H: Host>(
+    alloc: Global,
+    host: &mut H,
+    name: &[u8],
+    bytes: &[u8],
+) -> Result<Report, Trouble> {
     let mut report = Report::new(alloc);
     let file = std::str::from_utf8(name).unwrap_or("?");
     let place = Place {
@@ -75,7 +83,7 @@ pub fn try_file(alloc: Global, name: &[u8], bytes: &[u8]) -> Result<Report, Trou
         text: "",
     };
     let tried = match std::str::from_utf8(bytes) {
-        Ok(text) => try_cases(alloc, file, text, &mut report),
+        Ok(text) => try_cases(alloc, host, file, text, &mut report),
         Err(_) => Err(Trouble::Malformed),
     };
     report.settle(place, tried)?;

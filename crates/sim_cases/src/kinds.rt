@@ -37,9 +37,17 @@ pub enum Kind {
     Lines,
     /// Files that are read whole, or up to a limit.
     Reads,
+    /// Names of files that are compared.
+    Names,
+    /// Edits of a waveform.
+    Waves,
+    /// Calls of a host in memory.
+    Hosts,
+    /// Calls of the host of the real files.
+    Files,
 }
 
-const KINDS: [(&str, Kind); 17] = [
+const KINDS: [(&str, Kind); 21] = [
     ("calls", Kind::Calls),
     ("answers", Kind::Answers),
     ("sweeps", Kind::Sweeps),
@@ -57,6 +65,10 @@ const KINDS: [(&str, Kind); 17] = [
     ("logic", Kind::Logic),
     ("lines", Kind::Lines),
     ("reads", Kind::Reads),
+    ("names", Kind::Names),
+    ("waves", Kind::Waves),
+    ("hosts", Kind::Hosts),
+    ("files", Kind::Files),
 ];
 
 /// The kind of this name.
@@ -67,4 +79,11 @@ pub fn kind_of(word: &str) -> Option<Kind> {
         }
     }
     None
+}
+
+impl Kind {
+    /// Whether a case has several lines.
+    pub fn has_blocks(self) -> bool {
+        matches!(self, Kind::Calls | Kind::Units | Kind::Contents)
+    }
 }

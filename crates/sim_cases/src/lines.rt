@@ -28,7 +28,9 @@ fn design(alloc: Global) -> Result<Design, AllocError> {
 }
 
 fn small(written: &str) -> Result<u32, Trouble> {
-    u32::try_from(number_of(written)?).ok().ok_or(Trouble::Malformed)
+    u32::try_from(number_of(written)?)
+        .ok()
+        .ok_or(Trouble::Malformed)
 }
 
 fn end_of(word: &str, now: u64, cycle: u32) -> Result<Entry, Trouble> {
@@ -68,7 +70,7 @@ pub fn line_came(alloc: Global, given: &str) -> Result<String, Trouble> {
     let line = print_entry(alloc, &design, &entry)?;
     let mut added = Vec::new(alloc);
     append_entry(&mut added, &design, &entry)?;
-    let mut out = String::new(alloc);
+    let mut out = String::from_str(alloc, "line ")?;
     push_escaped(&mut out, line.as_slice())?;
     if added.as_slice() != line.as_slice() {
         out.push_str(" and added ")?;

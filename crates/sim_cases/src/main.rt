@@ -18,6 +18,7 @@ mod printing;
 mod regions;
 mod report;
 mod rows;
+mod state;
 mod sweeps;
 mod telling;
 mod texts;
@@ -26,15 +27,12 @@ mod trouble;
 mod types;
 mod units;
 mod values;
-#[cfg(test)]
-mod tests;
+mod waves;
 
-use report::Report;
 use sim_host::{Channel, FileHost, Host, Name, name, read_all, write_all};
 use std::alloc::Global;
 use std::process::ExitCode;
 use std::{env, io};
-use trouble::Trouble;
 
 /// The most bytes that a file of cases may have.
 const MOST_BYTES: usize = 16_777_216;
@@ -60,7 +58,7 @@ fn is_well<H: Host>(alloc: Global, host: &mut H, name: &Name) -> bool {
     let Ok(bytes) = read_all(alloc, host, name, MOST_BYTES) else {
         return say(host, "a file of cases can't be read\n") && false;
     };
-    match files::try_file(alloc, name.bytes(), bytes.as_slice()) {
+    match files::try_file(alloc, host, name.bytes(), bytes.as_slice()) {
         Ok(report) => say(host, report.text()) && report.is_well(),
         Err(_) => say(host, "no memory\n") && false,
     }

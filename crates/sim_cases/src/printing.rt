@@ -163,7 +163,10 @@ fn push_declaration(out: &mut String, declaration: &ResolvedDeclaration) -> Resu
     Ok(())
 }
 
-fn push_declarations(out: &mut String, declarations: &[ResolvedDeclaration]) -> Result<(), AllocError> {
+fn push_declarations(
+    out: &mut String,
+    declarations: &[ResolvedDeclaration],
+) -> Result<(), AllocError> {
     for declaration in declarations {
         push_declaration(out, declaration)?;
     }
@@ -439,7 +442,10 @@ fn push_concurrent(out: &mut String, statement: &ResolvedConcurrent) -> Result<(
 // ---- units
 
 /// What stands in an architecture.
-pub fn push_contents(out: &mut String, architecture: &ResolvedArchitecture) -> Result<(), AllocError> {
+pub fn push_contents(
+    out: &mut String,
+    architecture: &ResolvedArchitecture,
+) -> Result<(), AllocError> {
     push_declarations(out, architecture.declarations.as_slice())?;
     out.push_str("begin ")?;
     for statement in architecture.statements.as_slice() {
@@ -457,7 +463,10 @@ fn push_entity(out: &mut String, entity: &ResolvedEntity) -> Result<(), AllocErr
     push_list(out, entity.ports.as_slice())
 }
 
-fn push_architecture(out: &mut String, architecture: &ResolvedArchitecture) -> Result<(), AllocError> {
+fn push_architecture(
+    out: &mut String,
+    architecture: &ResolvedArchitecture,
+) -> Result<(), AllocError> {
     out.push_str("architecture ")?;
     push_bytes(out, architecture.name.as_slice())?;
     let line = architecture.line;

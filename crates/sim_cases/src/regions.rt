@@ -1,14 +1,29 @@
 //! Declarations in nested regions, step by step, with what names denote there.
 
 use crate::entries::{entry_of, meanings_shown, type_of, type_shown, types_shown};
-use crate::files::is_said;
-use crate::report::{Place, Report};
 use crate::trouble::Trouble;
 use std::alloc::{AllocError, Global};
 use vhdl_names_operators::{common_discrete, one_shared};
-use vhdl_names_overloads::Types;
+use vhdl_names_overloads::{Meanings, Types};
 use vhdl_names_scope::{Region, Regions, standard};
 use vhdl_units::BaseType;
+
+/// Nested regions, and what a name denoted when it was kept.
+#[derive(Drop)]
+pub struct Scope {
+    pub regions: Regions,
+    pub kept: Meanings,
+}
+
+impl Scope {
+    /// What always is visible, with nothing kept.
+    pub fn new(alloc: Global) -> Result<Scope, AllocError> {
+        Ok(Scope {
+            regions: Regions::new(alloc, standard(alloc)?),
+            kept: Meanings::new(alloc),
+        })
+    }
+}
 
 fn name_of(alloc: Global, word: &str) -> Result<String, AllocError> {
     String::from_str(alloc, word)
@@ -51,7 +66,7 @@ fn begin(regions: &mut Regions, alloc: Global, what: &str) -> Result<(), Trouble
 }
 
 /// A step that changes what is declared. Whether it is one.
-fn does_step(
+fn region_step(
     regions: &mut Regions,
     alloc: Global,
     word: &str,
@@ -93,7 +108,11 @@ fn types(regions: &Regions, alloc: Global, word: &str) -> Result<Types, AllocErr
 }
 
 /// Two types as one, where they are the same.
-fn both(alloc: Global, one: Option<BaseType>, other: Option<BaseType>) -> Result<String, AllocError> {
+fn both(
+    alloc: Global,
+    one: Option<BaseType>,
+    other: Option<BaseType>,
+) -> Result<String, AllocError> {
     if one == other {
         return type_shown(alloc, one);
     }
@@ -136,7 +155,37 @@ fn shares(regions: &mut Regions, alloc: Global, written: &str) -> Result<String,
 }
 
 fn declares(regions: &Regions, alloc: Global, word: &str) -> Result<String, AllocError> {
-    String::from_str(alloc, if regions.declares_other(word) { "yes" } else { "no" })
+    String::from_str(
+        alloc,
+        if regions.declares_other(word) {
+            "yes"
+        } else {
+            "no"
+        },
+    )
+}
+
+fn keep(scope: &mut Scope, alloc: Global, word: &str) -> Result<(), AllocError> {
+    scope.kept = scope.regions.meanings(alloc, word)?;
+    Ok(())
+}
+
+/// A step that changes what is declared, or `keep NAME`. Whether it is one.
+pub fn scope_step(alloc: Global, scope: &mut Scope, written: &str) -> Result<bool, Trouble> {
+    let (word, rest) = written.split_once(" ").unwrap_or((written, ""));
+    if word == "keep" {
+        keep(scope, alloc, rest)?;
+        return Ok(true);
+    }
+    region_step(&mut scope.regions, alloc, word, rest)
+}
+
+/// What is asked of the regions, or of what was kept.
+pub fn scope_came(alloc: Global, scope: &mut Scope, given: &str) -> Result<String, Trouble> {
+    if given == "kept" {
+        return Ok(meanings_shown(alloc, &scope.kept)?);
+    }
+    asked(&mut scope.regions, alloc, given)
 }
 
 /// What is asked.
@@ -151,45 +200,4 @@ fn asked(regions: &mut Regions, alloc: Global, given: &str) -> Result<String, Tr
         "shares" => shares(regions, alloc, rest),
         _ => Err(Trouble::Malformed),
     }
-}
-
-/// A step, or a row `WANTED | ASKED`.
-fn try_step(
-    regions: &mut Regions,
-    alloc: Global,
-    place: Place<'_>,
-    report: &mut Report,
-) -> Result<(), Trouble> {
-    let (word, rest) = place.text.split_once(" ").unwrap_or((place.text, ""));
-    if does_step(regions, alloc, word, rest)? {
-        return Ok(());
-    }
-    let (wanted, given) = place.text.split_once(" | ").ok_or(Trouble::Malformed)?;
-    let came = asked(regions, alloc, given)?;
-    report.case(place, wanted, came.as_str())?;
-    Ok(())
-}
-
-/// Tries the steps of a file.
-pub fn try_steps(
-    alloc: Global,
-    file: &str,
-    text: &str,
-    report: &mut Report,
-) -> Result<(), Trouble> {
-    let mut regions = Regions::new(alloc, standard(alloc)?);
-    let mut number = 0usize;
-    for line in text.lines() {
-        number = number.saturating_add(1);
-        if is_said(line) {
-            let place = Place {
-                file,
-                line: number,
-                text: line,
-            };
-            let tried = try_step(&mut regions, alloc, place, report);
-            report.settle(place, tried)?;
-        }
-    }
-    Ok(())
 }

@@ -60,7 +60,14 @@ pub fn try_sweep(alloc: Global, place: Place<'_>, report: &mut Report) -> Result
     compare(place, "read", came.as_str(), report)?;
     for (number, token) in list.iter().enumerate() {
         let next = list.as_slice().get(number + 1);
-        try_token(alloc, place, words.as_slice(), text.as_slice(), (number, token, next), report)?;
+        try_token(
+            alloc,
+            place,
+            words.as_slice(),
+            text.as_slice(),
+            (number, token, next),
+            report,
+        )?;
     }
     Ok(())
 }

@@ -91,9 +91,7 @@ fn tells(alloc: Global, expression: &str, regions: &Regions) -> Result<String, T
 /// What an expression tells: the expression, and behind a bar what `x` denotes in it.
 pub fn told_came(alloc: Global, given: &str) -> Result<String, Trouble> {
     match given.split_once(" | ") {
-        Some((expression, entries)) => {
-            tells(alloc, expression, &regions_with(alloc, entries)?)
-        }
+        Some((expression, entries)) => { tells(alloc, expression, &regions_with(alloc, entries)?) }
         None => tells(alloc, given, &Regions::new(alloc, standard(alloc)?)),
     }
 }

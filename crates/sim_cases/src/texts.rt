@@ -110,7 +110,12 @@ impl Reading {
     /// Ends a repeated part.
     fn repeat(&mut self) -> Result<(), Trouble> {
         let (count, from) = self.repeated.ok_or(Trouble::Malformed)?;
-        let part = self.text.bytes.as_slice().get(from..).ok_or(Trouble::Malformed)?;
+        let part = self
+            .text
+            .bytes
+            .as_slice()
+            .get(from..)
+            .ok_or(Trouble::Malformed)?;
         let part = Vec::from_slice(*self.text.bytes.allocator(), part)?;
         for _ in 1..count {
             self.text.bytes.extend_from_slice(part.as_slice())?;

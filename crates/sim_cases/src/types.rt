@@ -6,8 +6,8 @@ use crate::trouble::Trouble;
 use sqlite_items::Items;
 use std::alloc::{AllocError, Global};
 use vhdl_names_operators::{
-    all_arrays, can_be, can_be_from, common_discrete, compares, fits_alone, has, narrow, of_bits, of_string,
-    only, relates, results, results_from,
+    all_arrays, can_be, can_be_from, common_discrete, compares, fits_alone, has, narrow, of_bits,
+    of_string, only, relates, results, results_from,
 };
 use vhdl_names_overloads::Types;
 use vhdl_tree::{Operator, Unary};

@@ -9,9 +9,13 @@ use crate::trouble::Trouble;
 use sim_host::Host;
 use std::alloc::Global;
 
+fn is_comment(line: &str) -> bool {
+    line == "#" || line.starts_with("# ")
+}
+
 /// Whether a line says something, and isn't the one that says the kind.
 pub fn is_said(line: &str) -> bool {
-    !line.is_empty() && !line.starts_with("#") && !line.starts_with("kind ")
+    !line.is_empty() && !is_comment(line) && !line.starts_with("kind ")
 }
 
 /// The kind of the file. There is one line that says it.

@@ -7,9 +7,6 @@ use sim_host::{Channel, FileHost, Host, Name, name, write_all};
 use std::process::ExitCode;
 use std::{env, io};
 
-#[cfg(test)]
-mod tests;
-
 /// The words after the program's name. A word that isn't UTF-8 makes them none, which is no command.
 fn words(rt: &(impl env::Env + AllocGlobal)) -> io::Result<Vec<Name>> {
     let mut words = Vec::new(rt.alloc());

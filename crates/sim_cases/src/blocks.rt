@@ -86,14 +86,23 @@ impl<'a> Block<'a> {
     }
 
     /// Whether each part has one of these words.
-    fn has_only(&self, words: &[&str]) -> bool {
+    fn has_only(&self, words: &[&'static str]) -> bool {
         for part in &self.parts {
-            if !words.contains(&part.word) {
+            if !is_one_of(words, part.word) {
                 return false;
             }
         }
         true
     }
+}
+
+fn is_one_of(words: &[&'static str], word: &str) -> bool {
+    for known in words {
+        if *known == word {
+            return true;
+        }
+    }
+    false
 }
 
 fn words_of(alloc: Global, written: &str) -> Result<Vec<Name>, Trouble> {
@@ -168,11 +177,6 @@ const CALL_WORDS: [&str; 8] = [
     "words", "file", "out", "front", "err", "status", "piece", "fails",
 ];
 
-/// The numbers of the host calls that fail, each in a call of its own, or 0 for none.
-fn fails_of<'a>(block: &Block<'a>) -> &'a str {
-    block.rest("fails", "0")
-}
-
 fn out_of<'a>(alloc: Global, block: &Block<'a>) -> Result<(Vec<u8>, bool), Trouble> {
     if block.part("front").is_some() {
         return Ok((block.text(alloc, "front")?, true));
@@ -185,21 +189,26 @@ fn try_call(alloc: Global, block: &Block<'_>, report: &mut Report) -> Result<(),
     if !block.has_only(&CALL_WORDS) || block.part("words").is_none() {
         return Err(Trouble::Malformed);
     }
-    let words = words_of(alloc, block.rest("words", ""))?;
+    let words = block.rest("words", "");
+    let words = words_of(alloc, words)?;
     let text = block.text(alloc, "file")?;
     let (out, front) = out_of(alloc, block)?;
     let err = block.text(alloc, "err")?;
+    let status = block.rest("status", "0");
     let wanted = Wanted {
-        status: block.rest("status", "0"),
+        status,
         out: out.as_slice(),
         err: err.as_slice(),
         front,
     };
-    let piece = number_of(block.rest("piece", "4096"))?;
-    for number in fails_of(block).split_whitespace() {
+    let piece = block.rest("piece", "4096");
+    let piece = number_of(piece)?;
+    let file = block.rest("file", "W");
+    let fails = block.rest("fails", "0");
+    for number in fails.split_whitespace() {
         let call = Call {
             words: words.as_slice(),
-            file: block.rest("file", "W"),
+            file,
             text: text.as_slice(),
             piece,
             fails: number_of(number)? as u64,

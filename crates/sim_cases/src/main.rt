@@ -49,6 +49,7 @@ fn file_names(rt: &(impl env::Env + AllocGlobal)) -> io::Result<Vec<Name>> {
     Ok(names)
 }
 
+/// Writes to standard output. Whether that went well.
 fn say<H: Host>(host: &mut H, text: &str) -> bool {
     write_all(host, Channel::Out, text.as_bytes()).is_ok()
 }
@@ -56,11 +57,15 @@ fn say<H: Host>(host: &mut H, text: &str) -> bool {
 /// Tries the cases of a file, and says what differed and how many cases there are. Whether all is well.
 fn is_well<H: Host>(alloc: Global, host: &mut H, name: &Name) -> bool {
     let Ok(bytes) = read_all(alloc, host, name, MOST_BYTES) else {
-        return say(host, "a file of cases can't be read\n") && false;
+        say(host, "a file of cases can't be read\n");
+        return false;
     };
     match files::try_file(alloc, host, name.bytes(), bytes.as_slice()) {
         Ok(report) => say(host, report.text()) && report.is_well(),
-        Err(_) => say(host, "no memory\n") && false,
+        Err(_) => {
+            say(host, "no memory\n");
+            false
+        }
     }
 }
 

@@ -59,7 +59,7 @@ pub fn try_sweep(alloc: Global, place: Place<'_>, report: &mut Report) -> Result
     let came = answer(alloc, words.as_slice(), text.as_slice())?;
     compare(place, "read", came.as_str(), report)?;
     for (number, token) in list.iter().enumerate() {
-        let next = list.as_slice().get(number + 1);
+        let next = list.as_slice().get(number.saturating_add(1));
         try_token(
             alloc,
             place,

@@ -1,6 +1,7 @@
 //! Texts with what a run of one cycle of them is answered.
 
 use crate::calls::{Call, Came, FILE, make, run_words};
+use crate::out::Out;
 use crate::report::{Place, Report, push_escaped};
 use crate::texts::text_of;
 use crate::trouble::Trouble;
@@ -23,24 +24,23 @@ fn is_done(came: &Came) -> bool {
 }
 
 /// An answer that is none of the usual ones, in full.
-fn push_other(out: &mut String, came: &Came) -> Result<(), AllocError> {
-    let status = came.status as u8;
-    write!(out, "status {status}, Out ")?;
-    push_escaped(out, came.out())?;
-    out.push_str(", Err ")?;
-    push_escaped(out, came.err())
+fn push_other(out: &mut Out, came: &Came) {
+    out.put("status ");
+    out.show(came.status as u8);
+    out.put(", Out ");
+    push_escaped(out, came.out());
+    out.put(", Err ");
+    push_escaped(out, came.err());
 }
 
 fn shown(alloc: Global, came: &Came) -> Result<String, AllocError> {
-    if is_done(came) {
-        return String::from_str(alloc, "done");
+    let mut out = Out::new(alloc);
+    match refusal(came) {
+        Some(words) => out.put(words),
+        None if is_done(came) => out.put("done"),
+        None => push_other(&mut out, came),
     }
-    if let Some(words) = refusal(came) {
-        return String::from_str(alloc, words);
-    }
-    let mut out = String::new(alloc);
-    push_other(&mut out, came)?;
-    Ok(out)
+    out.finish()
 }
 
 /// What a run of one cycle of a text is answered: `done`, or why it is refused.
@@ -66,19 +66,18 @@ fn is_read(answer: &str) -> bool {
     is_met(answer) || answer.starts_with("Static ")
 }
 
-/// Compares an answer with what is wanted. `met` is a text that breaks no rule, and `read` one of the grammar.
-pub fn compare(
-    place: Place<'_>,
-    wanted: &str,
-    answer: &str,
-    report: &mut Report,
-) -> Result<(), AllocError> {
-    let came = if wanted == "met" && is_met(answer) || wanted == "read" && is_read(answer) {
-        wanted
-    } else {
-        answer
-    };
-    report.case(place, wanted, came)
+/// What is compared of an answer. `met` is a text that breaks no rule, and `read` one of the grammar.
+fn as_wanted<'a>(wanted: &'a str, answer: &'a str) -> &'a str {
+    match wanted {
+        "met" if is_met(answer) => wanted,
+        "read" if is_read(answer) => wanted,
+        _ => answer,
+    }
+}
+
+/// Compares an answer with what is wanted.
+pub fn compare(place: Place<'_>, wanted: &str, answer: &str, report: &mut Report) {
+    report.case(place, wanted, as_wanted(wanted, answer));
 }
 
 /// What is wanted, with the place of the mark, where there is one.
@@ -97,6 +96,6 @@ pub fn try_answer(alloc: Global, place: Place<'_>, report: &mut Report) -> Resul
     let words = run_words(alloc)?;
     let came = answer(alloc, words.as_slice(), text.bytes.as_slice())?;
     let wanted = with_mark(alloc, wanted, text.mark)?;
-    compare(place, wanted.as_str(), came.as_str(), report)?;
+    compare(place, wanted.as_str(), came.as_str(), report);
     Ok(())
 }

@@ -77,11 +77,11 @@ impl<'a> Block<'a> {
         }
     }
 
-    /// What stands behind a word, or this where there is no such part.
-    fn rest(&self, word: &str, otherwise: &'a str) -> &'a str {
+    /// What stands behind a word, if there is such a part.
+    fn rest(&self, word: &str) -> Option<&'a str> {
         match self.part(word) {
-            Some(part) => part.rest,
-            None => otherwise,
+            Some(part) => Some(part.rest),
+            None => None,
         }
     }
 
@@ -154,9 +154,9 @@ fn compare_call(
     report: &mut Report,
 ) -> Result<(), Trouble> {
     let status = status_bytes(alloc, came.status)?;
-    report.compare(place, "status", wanted.status.as_bytes(), status.as_bytes())?;
-    report.compare(place, "Out", out_wanted(wanted, came.out()), came.out())?;
-    report.compare(place, "Err", wanted.err, came.err())?;
+    report.compare(place, "status", wanted.status.as_bytes(), status.as_bytes());
+    report.compare(place, "Out", out_wanted(wanted, came.out()), came.out());
+    report.compare(place, "Err", wanted.err, came.err());
     let asked = came.times_asked();
     let asked = format!(in alloc; "{asked}")?;
     let asked_wanted = asked_wanted(wanted.status);
@@ -165,9 +165,9 @@ fn compare_call(
         "number of files asked for",
         asked_wanted.as_bytes(),
         asked.as_bytes(),
-    )?;
+    );
     if came.has_saved() {
-        report.compare(place, "saved file", b"none", b"one")?;
+        report.compare(place, "saved file", b"none", b"one");
     }
     report.count();
     Ok(())
@@ -186,25 +186,25 @@ fn out_of<'a>(alloc: Global, block: &Block<'a>) -> Result<(Vec<u8>, bool), Troub
 
 /// Words, a file, and what is written.
 fn try_call(alloc: Global, block: &Block<'_>, report: &mut Report) -> Result<(), Trouble> {
-    if !block.has_only(&CALL_WORDS) || block.part("words").is_none() {
+    if !block.has_only(&CALL_WORDS) {
         return Err(Trouble::Malformed);
     }
-    let words = block.rest("words", "");
+    let words = block.rest("words").ok_or(Trouble::Malformed)?;
     let words = words_of(alloc, words)?;
     let text = block.text(alloc, "file")?;
     let (out, front) = out_of(alloc, block)?;
     let err = block.text(alloc, "err")?;
-    let status = block.rest("status", "0");
+    let status = block.rest("status").unwrap_or("0");
     let wanted = Wanted {
         status,
         out: out.as_slice(),
         err: err.as_slice(),
         front,
     };
-    let piece = block.rest("piece", "4096");
+    let piece = block.rest("piece").unwrap_or("4096");
     let piece = number_of(piece)?;
-    let file = block.rest("file", "W");
-    let fails = block.rest("fails", "0");
+    let file = block.rest("file").unwrap_or("W");
+    let fails = block.rest("fails").unwrap_or("0");
     for number in fails.split_whitespace() {
         let call = Call {
             words: words.as_slice(),
@@ -235,7 +235,7 @@ fn try_shown(
         Kind::Units => units_of_text(alloc, text.as_slice())?,
         _ => contents_of(alloc, text.as_slice())?,
     };
-    report.compare(block.place, "answer", wanted.as_slice(), came.as_bytes())?;
+    report.compare(block.place, "answer", wanted.as_slice(), came.as_bytes());
     report.count();
     Ok(())
 }

@@ -1,5 +1,6 @@
 //! Types, and what a name may denote, as a case writes them.
 
+use crate::out::Out;
 use crate::texts::number_of;
 use crate::trouble::Trouble;
 use sqlite_items::Items;
@@ -48,30 +49,21 @@ pub fn types_of(alloc: Global, written: &str) -> Result<Types, Trouble> {
     Ok(Types::from_items(type_list(alloc, written)?))
 }
 
-fn push_type(out: &mut String, base: BaseType) -> Result<(), AllocError> {
-    if !out.as_str().is_empty() {
-        out.push(' ')?;
+/// Adds types, each with a blank behind it.
+pub fn push_types(out: &mut Out, types: &Types) {
+    for place in 0..types.len() {
+        if let Some(base) = types.get(place) {
+            out.show(base);
+            out.put(" ");
+        }
     }
-    write!(out, "{base:?}")
-}
-
-/// A list as a case writes it.
-pub fn or_none(alloc: Global, out: String) -> Result<String, AllocError> {
-    if out.as_str().is_empty() {
-        return String::from_str(alloc, "none");
-    }
-    Ok(out)
 }
 
 /// Types as a case writes them.
 pub fn types_shown(alloc: Global, types: &Types) -> Result<String, AllocError> {
-    let mut out = String::new(alloc);
-    for place in 0..types.len() {
-        if let Some(base) = types.get(place) {
-            push_type(&mut out, base)?;
-        }
-    }
-    or_none(alloc, out)
+    let mut out = Out::new(alloc);
+    push_types(&mut out, types);
+    out.finish_list()
 }
 
 /// One type as a case writes it.
@@ -173,45 +165,64 @@ fn class_word(class: Class) -> &'static str {
     }
 }
 
-fn push_mark(out: &mut String, mark: Mark) -> Result<(), AllocError> {
-    let (number, base) = (mark.number, mark.base);
-    write!(out, "subtype {number} {base:?}")?;
+fn push_mark(out: &mut Out, mark: Mark) {
+    out.put("subtype ");
+    out.show(mark.number);
+    out.put(" ");
+    out.show(mark.base);
     if mark.resolved {
-        out.push('~')?;
+        out.put("~");
     }
     if mark.bounded {
-        out.push_str("[]")?;
+        out.put("[]");
     }
-    Ok(())
 }
 
-fn push_object(out: &mut String, object: Object) -> Result<(), AllocError> {
-    let (number, base) = (object.number, object.base);
-    out.push_str(class_word(object.class))?;
-    write!(out, " {number} {base:?}")
+fn push_object(out: &mut Out, object: Object) {
+    out.put(class_word(object.class));
+    out.put(" ");
+    out.show(object.number);
+    out.put(" ");
+    out.show(object.base);
 }
 
-fn push_entry(out: &mut String, entry: Entry) -> Result<(), AllocError> {
+fn push_literal(out: &mut Out, base: BaseType, position: usize) {
+    out.put("literal ");
+    out.show(base);
+    out.put(" ");
+    out.show(position);
+}
+
+fn push_entry(out: &mut Out, entry: Entry) {
     match entry {
         Entry::Subtype(mark) => push_mark(out, mark),
         Entry::Object(object) => push_object(out, object),
-        Entry::Literal(base, position) => write!(out, "literal {base:?} {position}"),
-        Entry::Function(function) => write!(out, "function {function:?}"),
-        Entry::Unit(unit) => write!(out, "unit {unit:?}"),
-        Entry::Label(number) => write!(out, "label {number}"),
+        Entry::Literal(base, position) => push_literal(out, base, position),
+        Entry::Function(function) => {
+            out.put("function ");
+            out.show(function);
+        }
+        Entry::Unit(unit) => {
+            out.put("unit ");
+            out.show(unit);
+        }
+        Entry::Label(number) => {
+            out.put("label ");
+            out.show(number);
+        }
     }
 }
 
 /// What a name denotes, as a case writes it.
 pub fn meanings_shown(alloc: Global, meanings: &Meanings) -> Result<String, AllocError> {
-    let mut out = String::new(alloc);
+    let mut out = Out::new(alloc);
     for place in 0..meanings.len() {
-        if !out.as_str().is_empty() {
-            out.push_str(", ")?;
+        if !out.is_empty() {
+            out.put(", ");
         }
         if let Some(entry) = meanings.get(place) {
-            push_entry(&mut out, entry)?;
+            push_entry(&mut out, entry);
         }
     }
-    or_none(alloc, out)
+    out.finish_list()
 }

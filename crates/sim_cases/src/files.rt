@@ -72,13 +72,20 @@ fn try_cases<H: Host>(
     try_rows(alloc, host, kind, file, text, &mut state, report)
 }
 
+/// What is said of a file, and whether all its cases came as they are wanted.
+#[derive(Drop)]
+pub struct Tried {
+    pub text: String,
+    pub is_well: bool,
+}
+
 /// Tries all cases of a file. `host` has the real files.
 pub fn try_file<H: Host>(
     alloc: Global,
     host: &mut H,
     name: &[u8],
     bytes: &[u8],
-) -> Result<Report, Trouble> {
+) -> Result<Tried, Trouble> {
     let mut report = Report::new(alloc);
     let file = std::str::from_utf8(name).unwrap_or("?");
     let place = Place {
@@ -91,6 +98,8 @@ pub fn try_file<H: Host>(
         Err(_) => Err(Trouble::Malformed),
     };
     report.settle(place, tried)?;
-    report.finish(file.strip_suffix(".txt").unwrap_or(file))?;
-    Ok(report)
+    let is_well = report.is_well();
+    let group = file.strip_suffix(".txt").unwrap_or(file);
+    let text = report.finish(group)?;
+    Ok(Tried { text, is_well })
 }

@@ -1,8 +1,8 @@
 //! Values in formats: what is written, read, refused and printed.
 
+use crate::out::Out;
 use crate::texts::{bytes_of, number_of};
 use crate::trouble::Trouble;
-use crate::values::push_bytes;
 use std::alloc::{AllocError, Global};
 use vhpi_values::{
     Base, Format, FormatError, Formatted, IndexRange, Literal, Sequence, Ty, Val, ValueError,
@@ -99,20 +99,18 @@ fn numbers(alloc: Global, written: &str) -> Result<Vec<i64>, Trouble> {
 }
 
 fn number_list(alloc: Global, list: &[i64]) -> Result<String, AllocError> {
-    let mut out = String::new(alloc);
+    let mut out = Out::new(alloc);
     for number in list {
-        if !out.as_str().is_empty() {
-            out.push(' ')?;
-        }
-        write!(out, "{number}")?;
+        out.show(*number);
+        out.put(" ");
     }
-    Ok(out)
+    out.finish_list()
 }
 
 fn text_shown(alloc: Global, bytes: &[u8]) -> Result<String, AllocError> {
-    let mut out = String::new(alloc);
-    push_bytes(&mut out, bytes)?;
-    Ok(out)
+    let mut out = Out::new(alloc);
+    out.bytes(bytes);
+    out.finish()
 }
 
 /// A content: its text or its numbers.

@@ -1,51 +1,52 @@
 //! The designs that texts stand for: `top(a) s 0:1@2000000,` is the instance, its nets, and for each process the
 //! number of its target and its waveform.
 
+use crate::out::Out;
 use crate::texts::bytes_of;
 use crate::trouble::Trouble;
 use crate::units::tree_of;
-use crate::values::push_bytes;
 use first_form::{FormError, design_of_form};
 use sim_design::{Design, Instance, Net, Process};
 use sim_session::{SessionFault, read_text};
 use std::alloc::{AllocError, Global};
 use vhdl_tokens::TEXT_LIMIT;
 
-fn push_instance(out: &mut String, instance: &Instance) -> Result<(), AllocError> {
-    push_bytes(out, instance.name.as_slice())?;
-    out.push('(')?;
-    push_bytes(out, instance.architecture.as_slice())?;
-    out.push(')')
+fn push_instance(out: &mut Out, instance: &Instance) {
+    out.bytes(instance.name.as_slice());
+    out.put("(");
+    out.bytes(instance.architecture.as_slice());
+    out.put(")");
 }
 
-fn push_net(out: &mut String, net: &Net) -> Result<(), AllocError> {
-    out.push(' ')?;
-    push_bytes(out, net.name.as_slice())
+fn push_net(out: &mut Out, net: &Net) {
+    out.put(" ");
+    out.bytes(net.name.as_slice());
 }
 
-fn push_process(out: &mut String, process: &Process) -> Result<(), AllocError> {
-    let target = process.target;
-    write!(out, " {target}:")?;
+fn push_process(out: &mut Out, process: &Process) {
+    out.put(" ");
+    out.show(process.target);
+    out.put(":");
     for element in process.waveform.as_slice() {
-        let value = element.value;
-        let delay = element.delay;
-        write!(out, "{value}@{delay},")?;
+        out.show(element.value);
+        out.put("@");
+        out.show(element.delay);
+        out.put(",");
     }
-    Ok(())
 }
 
 fn shown(alloc: Global, design: &Design) -> Result<String, AllocError> {
-    let mut out = String::new(alloc);
+    let mut out = Out::new(alloc);
     for instance in design.instances.as_slice() {
-        push_instance(&mut out, instance)?;
+        push_instance(&mut out, instance);
     }
     for net in design.nets.as_slice() {
-        push_net(&mut out, net)?;
+        push_net(&mut out, net);
     }
     for process in design.processes.as_slice() {
-        push_process(&mut out, process)?;
+        push_process(&mut out, process);
     }
-    Ok(out)
+    out.finish()
 }
 
 /// The design of a text that is run.

@@ -1,9 +1,9 @@
 //! Calls of hosts: whole files that are read, and what is written to channels.
 
 use crate::calls::host_of;
+use crate::out::Out;
 use crate::texts::{bytes_of, number_of};
 use crate::trouble::Trouble;
-use crate::values::push_bytes;
 use sim_host::{
     Asked, Channel, Host, HostError, MemoryHost, Name, ReadError, name, read_all, write_all,
 };
@@ -17,19 +17,20 @@ fn asked_once(host: &MemoryHost, at: &Name) -> bool {
     matches!(host.asked(), [Asked::Start(name)] if name.bytes() == at.bytes())
 }
 
-fn shown(alloc: Global, answer: Result<Vec<u8>, ReadError>) -> Result<String, AllocError> {
-    let mut out = String::new(alloc);
+fn push_read(out: &mut Out, answer: &Result<Vec<u8>, ReadError>) {
     match answer {
         Ok(bytes) => {
-            out.push_str("read")?;
-            if !bytes.is_empty() {
-                out.push(' ')?;
-            }
-            push_bytes(&mut out, bytes.as_slice())?;
+            out.put("read ");
+            out.bytes(bytes.as_slice());
         }
-        Err(error) => write!(out, "{error:?}")?,
+        Err(error) => out.show(*error),
     }
-    Ok(out)
+}
+
+fn shown(alloc: Global, answer: &Result<Vec<u8>, ReadError>) -> Result<String, AllocError> {
+    let mut out = Out::new(alloc);
+    push_read(&mut out, answer);
+    out.finish_list()
 }
 
 /// Reads a file: `NAME LIMIT CALL TEXT` has the file that is asked for, the most bytes, the number of the call that
@@ -43,11 +44,10 @@ pub fn read_came(alloc: Global, given: &str) -> Result<String, Trouble> {
     let at = name(alloc, file)?;
     let mut host = host_of(alloc, FILE, text.as_slice(), 2, call)?;
     let answer = read_all(alloc, &mut host, &at, limit);
-    let mut out = shown(alloc, answer)?;
     if !asked_once(&host, &at) {
-        out.push_str(", not asked once")?;
+        return Ok(String::from_str(alloc, "not asked once")?);
     }
-    Ok(out)
+    Ok(shown(alloc, &answer)?)
 }
 
 /// Begins the channel File under this name, and writes all of it.
@@ -87,7 +87,7 @@ fn whole_came<H: Host>(alloc: Global, host: &mut H, written: &str) -> Result<Str
     let limit = number_of(limit)?;
     let at = name(alloc, file)?;
     let answer = read_all(alloc, host, &at, limit);
-    Ok(shown(alloc, answer)?)
+    Ok(shown(alloc, &answer)?)
 }
 
 /// A call of any host: `save NAME TEXT`, `write CHANNEL TEXT` or `read NAME LIMIT`.
@@ -106,34 +106,32 @@ pub fn empty_host(alloc: Global, fails: u64) -> Result<MemoryHost, NoMemory> {
     host_of(alloc, FILE, b"", 2, fails)
 }
 
-fn push_asked(out: &mut String, asked: &Asked) -> Result<(), AllocError> {
-    if !out.as_str().is_empty() {
-        out.push_str(", ")?;
-    }
+fn push_asked(out: &mut Out, asked: &Asked) {
     match asked {
         Asked::Start(name) => {
-            out.push_str("start ")?;
-            push_bytes(out, name.bytes())
+            out.put("start ");
+            out.bytes(name.bytes());
         }
         Asked::Create(name) => {
-            out.push_str("create ")?;
-            push_bytes(out, name.bytes())
+            out.put("create ");
+            out.bytes(name.bytes());
         }
     }
+    out.put(" ");
 }
 
 fn asked_shown(alloc: Global, host: &MemoryHost) -> Result<String, AllocError> {
-    let mut out = String::new(alloc);
+    let mut out = Out::new(alloc);
     for asked in host.asked() {
-        push_asked(&mut out, asked)?;
+        push_asked(&mut out, asked);
     }
-    Ok(out)
+    out.finish_list()
 }
 
 fn channel_shown(alloc: Global, host: &MemoryHost, channel: Channel) -> Result<String, AllocError> {
-    let mut out = String::new(alloc);
-    push_bytes(&mut out, host.written(channel))?;
-    Ok(out)
+    let mut out = Out::new(alloc);
+    out.bytes(host.written(channel));
+    out.finish()
 }
 
 /// A call of a host in memory, or what it has: `written CHANNEL` or `asked`.

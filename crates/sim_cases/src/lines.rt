@@ -1,5 +1,6 @@
 //! Entries of the journal with their lines, in a design whose one instance is `top` and whose one net is `s`.
 
+use crate::out::Out;
 use crate::report::push_escaped;
 use crate::texts::number_of;
 use crate::trouble::Trouble;
@@ -70,11 +71,16 @@ pub fn line_came(alloc: Global, given: &str) -> Result<String, Trouble> {
     let line = print_entry(alloc, &design, &entry)?;
     let mut added = Vec::new(alloc);
     append_entry(&mut added, &design, &entry)?;
-    let mut out = String::from_str(alloc, "line ")?;
-    push_escaped(&mut out, line.as_slice())?;
-    if added.as_slice() != line.as_slice() {
-        out.push_str(" and added ")?;
-        push_escaped(&mut out, added.as_slice())?;
+    Ok(shown(alloc, line.as_slice(), added.as_slice())?)
+}
+
+fn shown(alloc: Global, line: &[u8], added: &[u8]) -> Result<String, AllocError> {
+    let mut out = Out::new(alloc);
+    out.put("line ");
+    push_escaped(&mut out, line);
+    if added != line {
+        out.put(" and added ");
+        push_escaped(&mut out, added);
     }
-    Ok(out)
+    out.finish()
 }

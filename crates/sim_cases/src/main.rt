@@ -14,6 +14,7 @@ mod kinds;
 mod lines;
 mod logic;
 mod meanings;
+mod out;
 mod printing;
 mod regions;
 mod report;
@@ -61,7 +62,7 @@ fn is_well<H: Host>(alloc: Global, host: &mut H, name: &Name) -> bool {
         return false;
     };
     match files::try_file(alloc, host, name.bytes(), bytes.as_slice()) {
-        Ok(report) => say(host, report.text()) && report.is_well(),
+        Ok(tried) => say(host, tried.text.as_str()) && tried.is_well,
         Err(_) => {
             say(host, "no memory\n");
             false

@@ -1,8 +1,8 @@
 //! Units as texts. `14:s/2` is a declaration by its number, its name and its line, `Bit#1` a type by the number of
 //! its declaration, with `~` where it is resolved and `[]` where it has bounds. A statement begins with its line.
 
-use crate::values::{push_bytes, push_choices, push_reference, push_value};
-use std::alloc::AllocError;
+use crate::out::Out;
+use crate::values::{push_choices, push_reference, push_value};
 use vhdl_units::{
     Declared, Mark, RangeValue, ResolvedActual, ResolvedArchitecture, ResolvedArm,
     ResolvedAssertion, ResolvedAssignment, ResolvedAssociation, ResolvedBody, ResolvedCase,
@@ -15,474 +15,453 @@ use vhdl_units::{
 
 // ---- parts
 
-fn push_declared(out: &mut String, declared: &Declared) -> Result<(), AllocError> {
+fn push_declared(out: &mut Out, declared: &Declared) {
     let number = declared.number;
-    write!(out, "{number}:")?;
-    push_bytes(out, declared.name.as_slice())?;
+    out.show(number);
+    out.put(":");
+    out.bytes(declared.name.as_slice());
     let line = declared.line;
-    write!(out, "/{line}")?;
-    Ok(())
+    out.put("/");
+    out.show(line);
 }
 
-fn push_label(out: &mut String, label: &Option<Declared>) -> Result<(), AllocError> {
+fn push_label(out: &mut Out, label: &Option<Declared>) {
     if let Some(declared) = label {
-        push_declared(out, declared)?;
-        out.push(' ')?;
+        push_declared(out, declared);
+        out.put(" ");
     }
-    Ok(())
 }
 
 // A word and a value, where there is one.
-fn push_optional(out: &mut String, word: &str, value: &Option<Value>) -> Result<(), AllocError> {
+fn push_optional(out: &mut Out, word: &str, value: &Option<Value>) {
     if let Some(value) = value {
-        out.push_str(word)?;
-        push_value(out, value)?;
+        out.put(word);
+        push_value(out, value);
     }
-    Ok(())
 }
 
-fn push_values(out: &mut String, values: &[Value]) -> Result<(), AllocError> {
+fn push_values(out: &mut Out, values: &[Value]) {
     for value in values {
-        push_value(out, value)?;
-        out.push(',')?;
+        push_value(out, value);
+        out.put(",");
     }
-    Ok(())
 }
 
-fn push_text(out: &mut String, text: &[u8]) -> Result<(), AllocError> {
-    out.push('"')?;
-    push_bytes(out, text)?;
-    out.push('"')?;
-    Ok(())
+fn push_text(out: &mut Out, text: &[u8]) {
+    out.put("\"");
+    out.bytes(text);
+    out.put("\"");
 }
 
-fn push_range(out: &mut String, range: &RangeValue) -> Result<(), AllocError> {
+fn push_range(out: &mut Out, range: &RangeValue) {
     match range {
-        RangeValue::Unknown => out.push('?')?,
+        RangeValue::Unknown => out.put("?"),
         RangeValue::Bounds(left, direction, right) => {
-            push_value(out, left)?;
-            write!(out, " {direction:?} ")?;
-            push_value(out, right)?;
+            push_value(out, left);
+            out.put(" ");
+            out.show(direction);
+            out.put(" ");
+            push_value(out, right);
         }
         RangeValue::Of(reference) => {
-            push_reference(out, reference)?;
-            out.push_str("'Range")?;
+            push_reference(out, reference);
+            out.put("'Range");
         }
     }
-    Ok(())
 }
 
 // ---- declarations
 
-fn push_mark(out: &mut String, mark: &Option<Mark>) -> Result<(), AllocError> {
+fn push_mark(out: &mut Out, mark: &Option<Mark>) {
     match mark {
-        None => out.push('?')?,
+        None => out.put("?"),
         Some(mark) => {
             let base = mark.base;
             let number = mark.number;
-            write!(out, "{base:?}#{number}")?;
+            out.show(base);
+            out.put("#");
+            out.show(number);
             if mark.resolved {
-                out.push('~')?;
+                out.put("~");
             }
             if mark.bounded {
-                out.push_str("[]")?;
+                out.put("[]");
             }
         }
     }
-    Ok(())
 }
 
-fn push_subtype(out: &mut String, subtype: &ResolvedSubtype) -> Result<(), AllocError> {
-    out.push_str(" of ")?;
-    push_mark(out, &subtype.mark)?;
+fn push_subtype(out: &mut Out, subtype: &ResolvedSubtype) {
+    out.put(" of ");
+    push_mark(out, &subtype.mark);
     match &subtype.constraint {
         None => {}
         Some(ResolvedConstraint::Range(range)) => {
-            out.push_str(" range ")?;
-            push_range(out, range)?;
+            out.put(" range ");
+            push_range(out, range);
         }
         Some(ResolvedConstraint::Index(range)) => {
-            out.push('(')?;
-            push_range(out, range)?;
-            out.push(')')?;
+            out.put("(");
+            push_range(out, range);
+            out.put(")");
         }
     }
-    Ok(())
 }
 
-fn push_objects(out: &mut String, objects: &ResolvedObjects) -> Result<(), AllocError> {
+fn push_objects(out: &mut Out, objects: &ResolvedObjects) {
     let class = objects.class;
-    write!(out, "{class:?}")?;
+    out.show(class);
     for declared in objects.declared.as_slice() {
-        out.push(' ')?;
-        push_declared(out, declared)?;
+        out.put(" ");
+        push_declared(out, declared);
     }
-    push_subtype(out, &objects.subtype)?;
-    push_optional(out, ":=", &objects.initial)?;
-    out.push(';')?;
-    Ok(())
+    push_subtype(out, &objects.subtype);
+    push_optional(out, ":=", &objects.initial);
+    out.put(";");
 }
 
-fn push_list(out: &mut String, list: &[ResolvedObjects]) -> Result<(), AllocError> {
-    out.push('(')?;
+fn push_list(out: &mut Out, list: &[ResolvedObjects]) {
+    out.put("(");
     for objects in list {
-        push_objects(out, objects)?;
+        push_objects(out, objects);
     }
-    out.push(')')?;
-    Ok(())
+    out.put(")");
 }
 
-fn push_type(out: &mut String, declaration: &ResolvedType) -> Result<(), AllocError> {
-    out.push_str("type ")?;
-    push_declared(out, &declaration.declared)?;
-    out.push('(')?;
+fn push_type(out: &mut Out, declaration: &ResolvedType) {
+    out.put("type ");
+    push_declared(out, &declaration.declared);
+    out.put("(");
     for literal in declaration.literals.as_slice() {
-        push_bytes(out, literal.as_slice())?;
-        out.push(',')?;
+        out.bytes(literal.as_slice());
+        out.put(",");
     }
-    out.push_str(");")?;
-    Ok(())
+    out.put(");");
 }
 
-fn push_declaration(out: &mut String, declaration: &ResolvedDeclaration) -> Result<(), AllocError> {
+fn push_declaration(out: &mut Out, declaration: &ResolvedDeclaration) {
     match declaration {
-        ResolvedDeclaration::Type(declaration) => push_type(out, declaration)?,
+        ResolvedDeclaration::Type(declaration) => push_type(out, declaration),
         ResolvedDeclaration::Subtype(declared, subtype) => {
-            out.push_str("subtype ")?;
-            push_declared(out, declared)?;
-            push_subtype(out, subtype)?;
-            out.push(';')?;
+            out.put("subtype ");
+            push_declared(out, declared);
+            push_subtype(out, subtype);
+            out.put(";");
         }
-        ResolvedDeclaration::Objects(objects) => push_objects(out, objects)?,
+        ResolvedDeclaration::Objects(objects) => push_objects(out, objects),
         ResolvedDeclaration::Foreign(value) => {
-            out.push_str("foreign ")?;
-            push_value(out, value)?;
-            out.push(';')?;
+            out.put("foreign ");
+            push_value(out, value);
+            out.put(";");
         }
     }
-    Ok(())
 }
 
-fn push_declarations(
-    out: &mut String,
-    declarations: &[ResolvedDeclaration],
-) -> Result<(), AllocError> {
+fn push_declarations(out: &mut Out, declarations: &[ResolvedDeclaration]) {
     for declaration in declarations {
-        push_declaration(out, declaration)?;
+        push_declaration(out, declaration);
     }
-    Ok(())
 }
 
 // ---- simple statements
 
-fn push_wait(out: &mut String, wait: &ResolvedWait) -> Result<(), AllocError> {
-    out.push_str("wait")?;
+fn push_wait(out: &mut Out, wait: &ResolvedWait) {
+    out.put("wait");
     if !wait.on.as_slice().is_empty() {
-        out.push_str(" on ")?;
-        push_values(out, wait.on.as_slice())?;
+        out.put(" on ");
+        push_values(out, wait.on.as_slice());
     }
-    push_optional(out, " until ", &wait.until)?;
+    push_optional(out, " until ", &wait.until);
     push_optional(out, " for ", &wait.time)
 }
 
-fn push_assertion(out: &mut String, assertion: &ResolvedAssertion) -> Result<(), AllocError> {
-    out.push_str("assert ")?;
-    push_value(out, &assertion.condition)?;
+fn push_assertion(out: &mut Out, assertion: &ResolvedAssertion) {
+    out.put("assert ");
+    push_value(out, &assertion.condition);
     if let Some(text) = &assertion.text {
-        out.push(' ')?;
-        push_text(out, text.as_slice())?;
+        out.put(" ");
+        push_text(out, text.as_slice());
     }
     let severity = assertion.severity;
-    write!(out, " {severity:?}")?;
-    Ok(())
+    out.put(" ");
+    out.show(severity);
 }
 
-fn push_report(out: &mut String, report: &ResolvedReport) -> Result<(), AllocError> {
-    out.push_str("report ")?;
-    push_text(out, report.text.as_slice())?;
+fn push_report(out: &mut Out, report: &ResolvedReport) {
+    out.put("report ");
+    push_text(out, report.text.as_slice());
     let severity = report.severity;
-    write!(out, " {severity:?}")?;
-    Ok(())
+    out.put(" ");
+    out.show(severity);
 }
 
-fn push_delay(out: &mut String, delay: &ResolvedDelay) -> Result<(), AllocError> {
+fn push_delay(out: &mut Out, delay: &ResolvedDelay) {
     match delay {
         ResolvedDelay::Inertial => {}
         ResolvedDelay::Reject(limit) => {
-            out.push_str("reject ")?;
-            push_value(out, limit)?;
-            out.push(' ')?;
+            out.put("reject ");
+            push_value(out, limit);
+            out.put(" ");
         }
-        ResolvedDelay::Transport => out.push_str("transport ")?,
+        ResolvedDelay::Transport => out.put("transport "),
     }
-    Ok(())
 }
 
-fn push_waveform(out: &mut String, waveform: &[ResolvedElement]) -> Result<(), AllocError> {
+fn push_waveform(out: &mut Out, waveform: &[ResolvedElement]) {
     for element in waveform {
-        push_value(out, &element.value)?;
-        push_optional(out, "@", &element.after)?;
-        out.push(',')?;
+        push_value(out, &element.value);
+        push_optional(out, "@", &element.after);
+        out.put(",");
     }
-    Ok(())
 }
 
-fn push_assignment(out: &mut String, assignment: &ResolvedAssignment) -> Result<(), AllocError> {
-    push_value(out, &assignment.target)?;
-    out.push_str("<=")?;
-    push_delay(out, &assignment.delay)?;
+fn push_assignment(out: &mut Out, assignment: &ResolvedAssignment) {
+    push_value(out, &assignment.target);
+    out.put("<=");
+    push_delay(out, &assignment.delay);
     push_waveform(out, assignment.waveform.as_slice())
 }
 
-fn push_jump(out: &mut String, word: &str, jump: &ResolvedJump) -> Result<(), AllocError> {
+fn push_jump(out: &mut Out, word: &str, jump: &ResolvedJump) {
     let loops = jump.loops;
-    write!(out, "{word} {loops}")?;
+    out.show(word);
+    out.put(" ");
+    out.show(loops);
     push_optional(out, " if ", &jump.condition)
 }
 
-fn push_scheme(out: &mut String, scheme: &ResolvedScheme) -> Result<(), AllocError> {
+fn push_scheme(out: &mut Out, scheme: &ResolvedScheme) {
     match scheme {
-        ResolvedScheme::Forever => out.push_str("loop")?,
+        ResolvedScheme::Forever => out.put("loop"),
         ResolvedScheme::While(condition) => {
-            out.push_str("while ")?;
-            push_value(out, condition)?;
+            out.put("while ");
+            push_value(out, condition);
         }
         ResolvedScheme::For(declared, base, range) => {
-            out.push_str("for ")?;
-            push_declared(out, declared)?;
-            write!(out, " {base:?} ")?;
-            push_range(out, range)?;
+            out.put("for ");
+            push_declared(out, declared);
+            out.put(" ");
+            out.show(base);
+            out.put(" ");
+            push_range(out, range);
         }
     }
-    Ok(())
 }
 
 // ---- statements
 
 #[cycle(push)]
-fn push_statements(out: &mut String, statements: &[ResolvedStatement]) -> Result<(), AllocError> {
-    out.push('{')?;
+fn push_statements(out: &mut Out, statements: &[ResolvedStatement]) {
+    out.put("{");
     for statement in statements {
-        push_statement(out, statement)?;
+        push_statement(out, statement);
     }
-    out.push('}')?;
-    Ok(())
+    out.put("}");
 }
 
 #[cycle(push)]
-fn push_statement(out: &mut String, statement: &ResolvedStatement) -> Result<(), AllocError> {
+fn push_statement(out: &mut Out, statement: &ResolvedStatement) {
     let line = statement.line;
-    write!(out, "{line} ")?;
-    push_label(out, &statement.label)?;
-    push_body(out, &statement.body)?;
-    out.push(';')?;
-    Ok(())
+    out.show(line);
+    out.put(" ");
+    push_label(out, &statement.label);
+    push_body(out, &statement.body);
+    out.put(";");
 }
 
 #[cycle(push)]
-fn push_body(out: &mut String, body: &ResolvedBody) -> Result<(), AllocError> {
+fn push_body(out: &mut Out, body: &ResolvedBody) {
     match body {
-        ResolvedBody::Wait(wait) => push_wait(out, wait)?,
-        ResolvedBody::Assert(assertion) => push_assertion(out, assertion)?,
-        ResolvedBody::Report(report) => push_report(out, report)?,
-        ResolvedBody::Signal(assignment) => push_assignment(out, assignment)?,
+        ResolvedBody::Wait(wait) => push_wait(out, wait),
+        ResolvedBody::Assert(assertion) => push_assertion(out, assertion),
+        ResolvedBody::Report(report) => push_report(out, report),
+        ResolvedBody::Signal(assignment) => push_assignment(out, assignment),
         ResolvedBody::Variable(target, value) => {
-            push_value(out, target)?;
-            out.push_str(":=")?;
-            push_value(out, value)?;
+            push_value(out, target);
+            out.put(":=");
+            push_value(out, value);
         }
-        ResolvedBody::If(statement) => push_if(out, statement)?,
-        ResolvedBody::Case(statement) => push_case(out, statement)?,
-        ResolvedBody::Loop(statement) => push_loop(out, statement)?,
-        ResolvedBody::Next(jump) => push_jump(out, "next", jump)?,
-        ResolvedBody::Exit(jump) => push_jump(out, "exit", jump)?,
-        ResolvedBody::Null => out.push_str("null")?,
+        ResolvedBody::If(statement) => push_if(out, statement),
+        ResolvedBody::Case(statement) => push_case(out, statement),
+        ResolvedBody::Loop(statement) => push_loop(out, statement),
+        ResolvedBody::Next(jump) => push_jump(out, "next", jump),
+        ResolvedBody::Exit(jump) => push_jump(out, "exit", jump),
+        ResolvedBody::Null => out.put("null"),
     }
-    Ok(())
 }
 
 #[cycle(push)]
-fn push_if(out: &mut String, statement: &ResolvedIf) -> Result<(), AllocError> {
-    out.push_str("if ")?;
-    push_value(out, &statement.condition)?;
-    push_statements(out, statement.statements.as_slice())?;
-    push_elsifs(out, statement.elsifs.as_slice())?;
-    out.push_str(" else")?;
+fn push_if(out: &mut Out, statement: &ResolvedIf) {
+    out.put("if ");
+    push_value(out, &statement.condition);
+    push_statements(out, statement.statements.as_slice());
+    push_elsifs(out, statement.elsifs.as_slice());
+    out.put(" else");
     push_statements(out, statement.otherwise.as_slice())
 }
 
 #[cycle(push)]
-fn push_elsifs(out: &mut String, elsifs: &[ResolvedElsif]) -> Result<(), AllocError> {
+fn push_elsifs(out: &mut Out, elsifs: &[ResolvedElsif]) {
     for elsif in elsifs {
-        out.push_str(" elsif ")?;
-        push_value(out, &elsif.condition)?;
-        push_statements(out, elsif.statements.as_slice())?;
+        out.put(" elsif ");
+        push_value(out, &elsif.condition);
+        push_statements(out, elsif.statements.as_slice());
     }
-    Ok(())
 }
 
 #[cycle(push)]
-fn push_case(out: &mut String, statement: &ResolvedCase) -> Result<(), AllocError> {
-    out.push_str("case ")?;
-    push_value(out, &statement.subject)?;
+fn push_case(out: &mut Out, statement: &ResolvedCase) {
+    out.put("case ");
+    push_value(out, &statement.subject);
     push_arms(out, statement.arms.as_slice())
 }
 
 #[cycle(push)]
-fn push_arms(out: &mut String, arms: &[ResolvedArm]) -> Result<(), AllocError> {
+fn push_arms(out: &mut Out, arms: &[ResolvedArm]) {
     for arm in arms {
-        out.push_str(" when ")?;
-        push_choices(out, arm.choices.as_slice())?;
-        push_statements(out, arm.statements.as_slice())?;
+        out.put(" when ");
+        push_choices(out, arm.choices.as_slice());
+        push_statements(out, arm.statements.as_slice());
     }
-    Ok(())
 }
 
 #[cycle(push)]
-fn push_loop(out: &mut String, statement: &ResolvedLoop) -> Result<(), AllocError> {
-    push_scheme(out, &statement.scheme)?;
+fn push_loop(out: &mut Out, statement: &ResolvedLoop) {
+    push_scheme(out, &statement.scheme);
     push_statements(out, statement.statements.as_slice())
 }
 
 // ---- concurrent statements
 
-fn push_postponed(out: &mut String, postponed: bool) -> Result<(), AllocError> {
+fn push_postponed(out: &mut Out, postponed: bool) {
     if postponed {
-        out.push_str("postponed ")?;
+        out.put("postponed ");
     }
-    Ok(())
 }
 
-fn push_process(out: &mut String, process: &ResolvedProcess) -> Result<(), AllocError> {
-    push_postponed(out, process.postponed)?;
-    out.push_str("process")?;
+fn push_process(out: &mut Out, process: &ResolvedProcess) {
+    push_postponed(out, process.postponed);
+    out.put("process");
     match &process.sensitivity {
         ResolvedSensitivity::Unlisted => {}
-        ResolvedSensitivity::All => out.push_str(" all")?,
+        ResolvedSensitivity::All => out.put(" all"),
         ResolvedSensitivity::Names(names) => {
-            out.push_str(" (")?;
-            push_values(out, names.as_slice())?;
-            out.push(')')?;
+            out.put(" (");
+            push_values(out, names.as_slice());
+            out.put(")");
         }
     }
-    out.push('{')?;
-    push_declarations(out, process.declarations.as_slice())?;
-    out.push('}')?;
+    out.put("{");
+    push_declarations(out, process.declarations.as_slice());
+    out.put("}");
     push_statements(out, process.statements.as_slice())
 }
 
-fn push_concurrent_assignment(
-    out: &mut String,
-    assignment: &ResolvedConcurrentAssignment,
-) -> Result<(), AllocError> {
-    push_postponed(out, assignment.postponed)?;
-    push_value(out, &assignment.target)?;
-    out.push_str("<=")?;
-    push_delay(out, &assignment.delay)?;
-    push_waveform(out, assignment.waveform.as_slice())?;
+fn push_concurrent_assignment(out: &mut Out, assignment: &ResolvedConcurrentAssignment) {
+    push_postponed(out, assignment.postponed);
+    push_value(out, &assignment.target);
+    out.put("<=");
+    push_delay(out, &assignment.delay);
+    push_waveform(out, assignment.waveform.as_slice());
     for alternative in assignment.alternatives.as_slice() {
-        out.push_str(" if ")?;
-        push_value(out, &alternative.condition)?;
-        out.push_str(" else ")?;
-        push_waveform(out, alternative.otherwise.as_slice())?;
+        out.put(" if ");
+        push_value(out, &alternative.condition);
+        out.put(" else ");
+        push_waveform(out, alternative.otherwise.as_slice());
     }
     push_optional(out, " if ", &assignment.condition)
 }
 
-fn push_number(out: &mut String, number: Option<usize>) -> Result<(), AllocError> {
+fn push_number(out: &mut Out, number: Option<usize>) {
     match number {
-        None => out.push('?')?,
-        Some(number) => write!(out, "{number}")?,
-    }
-    Ok(())
-}
-
-fn push_associations(out: &mut String, list: &[ResolvedAssociation]) -> Result<(), AllocError> {
-    out.push('(')?;
-    for association in list {
-        push_number(out, association.formal.map(|formal| formal.number))?;
-        out.push_str("=>")?;
-        match &association.actual {
-            ResolvedActual::Value(value) => push_value(out, value)?,
-            ResolvedActual::Open => out.push_str("open")?,
+        None => out.put("?"),
+        Some(number) => {
+            out.show(number);
         }
-        out.push(',')?;
     }
-    out.push(')')?;
-    Ok(())
 }
 
-fn push_instance(out: &mut String, instance: &ResolvedInstance) -> Result<(), AllocError> {
-    out.push_str("entity ")?;
-    push_number(out, instance.entity)?;
-    if let Some(architecture) = &instance.architecture {
-        out.push('(')?;
-        push_bytes(out, architecture.as_slice())?;
-        out.push(')')?;
+fn push_associations(out: &mut Out, list: &[ResolvedAssociation]) {
+    out.put("(");
+    for association in list {
+        push_number(out, association.formal.map(|formal| formal.number));
+        out.put("=>");
+        match &association.actual {
+            ResolvedActual::Value(value) => push_value(out, value),
+            ResolvedActual::Open => out.put("open"),
+        }
+        out.put(",");
     }
-    push_associations(out, instance.generics.as_slice())?;
+    out.put(")");
+}
+
+fn push_instance(out: &mut Out, instance: &ResolvedInstance) {
+    out.put("entity ");
+    push_number(out, instance.entity);
+    if let Some(architecture) = &instance.architecture {
+        out.put("(");
+        out.bytes(architecture.as_slice());
+        out.put(")");
+    }
+    push_associations(out, instance.generics.as_slice());
     push_associations(out, instance.ports.as_slice())
 }
 
-fn push_concurrent(out: &mut String, statement: &ResolvedConcurrent) -> Result<(), AllocError> {
+fn push_concurrent(out: &mut Out, statement: &ResolvedConcurrent) {
     let line = statement.line;
-    write!(out, "{line} ")?;
-    push_label(out, &statement.label)?;
+    out.show(line);
+    out.put(" ");
+    push_label(out, &statement.label);
     match &statement.body {
-        ResolvedConcurrentBody::Process(process) => push_process(out, process)?,
+        ResolvedConcurrentBody::Process(process) => push_process(out, process),
         ResolvedConcurrentBody::Assignment(assignment) => {
-            push_concurrent_assignment(out, assignment)?
+            push_concurrent_assignment(out, assignment)
         }
-        ResolvedConcurrentBody::Instance(instance) => push_instance(out, instance)?,
+        ResolvedConcurrentBody::Instance(instance) => push_instance(out, instance),
     }
-    out.push(';')?;
-    Ok(())
+    out.put(";");
 }
 
 // ---- units
 
 /// What stands in an architecture.
-pub fn push_contents(
-    out: &mut String,
-    architecture: &ResolvedArchitecture,
-) -> Result<(), AllocError> {
-    push_declarations(out, architecture.declarations.as_slice())?;
-    out.push_str("begin ")?;
+pub fn push_contents(out: &mut Out, architecture: &ResolvedArchitecture) {
+    push_declarations(out, architecture.declarations.as_slice());
+    out.put("begin ");
     for statement in architecture.statements.as_slice() {
-        push_concurrent(out, statement)?;
+        push_concurrent(out, statement);
     }
-    Ok(())
 }
 
-fn push_entity(out: &mut String, entity: &ResolvedEntity) -> Result<(), AllocError> {
-    out.push_str("entity ")?;
-    push_bytes(out, entity.name.as_slice())?;
+fn push_entity(out: &mut Out, entity: &ResolvedEntity) {
+    out.put("entity ");
+    out.bytes(entity.name.as_slice());
     let line = entity.line;
-    write!(out, "/{line} ")?;
-    push_list(out, entity.generics.as_slice())?;
+    out.put("/");
+    out.show(line);
+    out.put(" ");
+    push_list(out, entity.generics.as_slice());
     push_list(out, entity.ports.as_slice())
 }
 
-fn push_architecture(
-    out: &mut String,
-    architecture: &ResolvedArchitecture,
-) -> Result<(), AllocError> {
-    out.push_str("architecture ")?;
-    push_bytes(out, architecture.name.as_slice())?;
+fn push_architecture(out: &mut Out, architecture: &ResolvedArchitecture) {
+    out.put("architecture ");
+    out.bytes(architecture.name.as_slice());
     let line = architecture.line;
-    write!(out, "/{line} of ")?;
-    push_number(out, architecture.entity)?;
-    out.push(' ')?;
+    out.put("/");
+    out.show(line);
+    out.put(" of ");
+    push_number(out, architecture.entity);
+    out.put(" ");
     push_contents(out, architecture)
 }
 
 /// All units of a file.
-pub fn push_units(out: &mut String, units: &Units) -> Result<(), AllocError> {
+pub fn push_units(out: &mut Out, units: &Units) {
     for unit in units.units.as_slice() {
         match unit {
-            ResolvedUnit::Entity(entity) => push_entity(out, entity)?,
-            ResolvedUnit::Architecture(architecture) => push_architecture(out, architecture)?,
+            ResolvedUnit::Entity(entity) => push_entity(out, entity),
+            ResolvedUnit::Architecture(architecture) => push_architecture(out, architecture),
         }
     }
-    Ok(())
 }

@@ -1,5 +1,6 @@
 //! What is said of the cases of a file.
 
+use crate::out::Out;
 use crate::trouble::Trouble;
 use std::alloc::{AllocError, Global};
 
@@ -14,36 +15,30 @@ pub struct Place<'a> {
 /// The differences, and how many cases were compared.
 #[derive(Drop)]
 pub struct Report {
-    text: String,
+    text: Out,
     cases: usize,
     differences: usize,
 }
 
-/// Adds bytes as they are read in a case.
-pub fn push_escaped(out: &mut String, bytes: &[u8]) -> Result<(), AllocError> {
+/// Adds bytes as they are written in a case.
+pub fn push_escaped(out: &mut Out, bytes: &[u8]) {
     for byte in bytes {
         match *byte {
-            b'\n' => out.push_str("\\n")?,
-            b'\\' => out.push_str("\\\\")?,
-            b' '..=b'~' => out.push(char::from(*byte))?,
-            other => write!(out, "\\x{other:02x}")?,
+            b'\n' => out.put("\\n"),
+            b'\\' => out.put("\\\\"),
+            b' '..=b'~' => out.bytes(&[*byte]),
+            other => out.byte_digits(other),
         }
     }
-    Ok(())
 }
 
 impl Report {
     pub fn new(alloc: Global) -> Report {
         Report {
-            text: String::new(alloc),
+            text: Out::new(alloc),
             cases: 0,
             differences: 0,
         }
-    }
-
-    /// All that is said.
-    pub fn text(&self) -> &str {
-        self.text.as_str()
     }
 
     /// Whether all cases came as they are wanted.
@@ -51,33 +46,31 @@ impl Report {
         self.differences == 0
     }
 
-    fn begin(&mut self, place: Place<'_>) -> Result<(), AllocError> {
+    fn begin(&mut self, place: Place<'_>) {
         self.differences = self.differences.saturating_add(1);
-        let Place { file, line, text } = place;
-        writeln!(self.text, "{file}:{line}: {text}")
+        self.text.put(place.file);
+        self.text.put(":");
+        self.text.show(place.line);
+        self.text.put(": ");
+        self.text.put(place.text);
+        self.text.put("\n");
     }
 
-    fn line(&mut self, word: &str, part: &str, bytes: &[u8]) -> Result<(), AllocError> {
-        write!(self.text, "  {word} {part}: ")?;
-        push_escaped(&mut self.text, bytes)?;
-        self.text.push_str("\n")
+    fn line(&mut self, word: &str, part: &str, bytes: &[u8]) {
+        self.text.put(word);
+        self.text.put(part);
+        self.text.put(": ");
+        push_escaped(&mut self.text, bytes);
+        self.text.put("\n");
     }
 
-    /// Compares a part of what came with what is wanted, and says where they differ. Whether they are the same.
-    pub fn compare(
-        &mut self,
-        place: Place<'_>,
-        part: &str,
-        wanted: &[u8],
-        came: &[u8],
-    ) -> Result<bool, AllocError> {
-        if wanted == came {
-            return Ok(true);
+    /// Compares a part of what came with what is wanted, and says where they differ.
+    pub fn compare(&mut self, place: Place<'_>, part: &str, wanted: &[u8], came: &[u8]) {
+        if wanted != came {
+            self.begin(place);
+            self.line("  wanted ", part, wanted);
+            self.line("  came ", part, came);
         }
-        self.begin(place)?;
-        self.line("wanted", part, wanted)?;
-        self.line("came", part, came)?;
-        Ok(false)
     }
 
     /// Counts a case all of which was compared.
@@ -86,22 +79,28 @@ impl Report {
     }
 
     /// Compares a case of one answer, and counts it.
-    pub fn case(&mut self, place: Place<'_>, wanted: &str, came: &str) -> Result<(), AllocError> {
-        self.compare(place, "answer", wanted.as_bytes(), came.as_bytes())?;
+    pub fn case(&mut self, place: Place<'_>, wanted: &str, came: &str) {
+        self.compare(place, "answer", wanted.as_bytes(), came.as_bytes());
         self.count();
-        Ok(())
     }
 
-    /// Says that a case is malformed.
-    pub fn malformed(&mut self, place: Place<'_>) -> Result<(), AllocError> {
-        self.begin(place)?;
-        self.text.push_str("  malformed\n")
+    fn malformed(&mut self, place: Place<'_>) {
+        self.begin(place);
+        self.text.put("  malformed\n");
     }
 
-    /// Says how many cases there are.
-    pub fn finish(&mut self, group: &str) -> Result<(), AllocError> {
-        let cases = self.cases;
-        writeln!(self.text, "{group}: {cases} cases")
+    /// Says how many cases there are, and gives all that is said.
+    pub fn finish(self, group: &str) -> Result<String, AllocError> {
+        let Report {
+            mut text,
+            cases,
+            ..
+        } = self;
+        text.put(group);
+        text.put(": ");
+        text.show(cases);
+        text.put(" cases\n");
+        text.finish()
     }
 
     /// Goes on where a case was malformed.
@@ -109,7 +108,7 @@ impl Report {
         match tried {
             Ok(()) => Ok(()),
             Err(Trouble::Malformed) => {
-                self.malformed(place)?;
+                self.malformed(place);
                 Ok(())
             }
             Err(Trouble::NoMemory) => Err(Trouble::NoMemory),

@@ -57,7 +57,7 @@ pub fn try_sweep(alloc: Global, place: Place<'_>, report: &mut Report) -> Result
     let list = tokens_of(alloc, text.as_slice())?;
     let words = run_words(alloc)?;
     let came = answer(alloc, words.as_slice(), text.as_slice())?;
-    compare(place, "read", came.as_str(), report)?;
+    compare(place, "read", came.as_str(), report);
     for (number, token) in list.iter().enumerate() {
         let next = list.as_slice().get(number.saturating_add(1));
         try_token(
@@ -83,9 +83,9 @@ fn try_token(
     let (number, token, next) = at;
     let wanted = syntax_fault(alloc, number)?;
     let cut = answer(alloc, words, front(text, token))?;
-    report.case(place, wanted.as_str(), cut.as_str())?;
+    report.case(place, wanted.as_str(), cut.as_str());
     let wrong = spoiled(alloc, text, token, next)?;
     let wrong = answer(alloc, words, wrong.as_slice())?;
-    report.case(place, wanted.as_str(), wrong.as_str())?;
+    report.case(place, wanted.as_str(), wrong.as_str());
     Ok(())
 }

@@ -1,7 +1,8 @@
 //! What expressions tell: the rules that they break, the types that they can have, and whether they are static and
 //! read an object.
 
-use crate::entries::{entry_of, or_none};
+use crate::entries::{entry_of, push_types};
+use crate::out::Out;
 use crate::texts::bytes_of;
 use crate::trouble::Trouble;
 use crate::units::tree_of;
@@ -29,37 +30,31 @@ fn first_value(tree: &DesignFile) -> Option<&Expr> {
 }
 
 /// The rules that are broken, with places from the begin of the expression.
-fn push_faults(out: &mut String, faults: &[Fault]) -> Result<(), AllocError> {
+fn push_faults(out: &mut Out, faults: &[Fault]) {
     for fault in faults {
-        let rule = fault.rule;
-        let place = (fault.place as usize).saturating_sub(FRONT.len());
-        write!(out, "{rule:?}@{place} ")?;
+        out.show(fault.rule);
+        out.put("@");
+        out.show((fault.place as usize).saturating_sub(FRONT.len()));
+        out.put(" ");
     }
-    Ok(())
 }
 
-fn push_types(out: &mut String, told: &Told) -> Result<(), AllocError> {
-    for place in 0..told.types.len() {
-        if let Some(base) = told.types.get(place) {
-            write!(out, "{base:?} ")?;
-        }
+fn push_told(out: &mut Out, told: &Told) {
+    push_faults(out, told.names.as_slice());
+    push_faults(out, told.typing.as_slice());
+    push_types(out, &told.types);
+    if told.is_static {
+        out.put("static ");
     }
-    Ok(())
+    if told.reads {
+        out.put("reads ");
+    }
 }
 
 fn shown(alloc: Global, told: &Told) -> Result<String, AllocError> {
-    let mut out = String::new(alloc);
-    push_faults(&mut out, told.names.as_slice())?;
-    push_faults(&mut out, told.typing.as_slice())?;
-    push_types(&mut out, told)?;
-    if told.is_static {
-        out.push_str("static ")?;
-    }
-    if told.reads {
-        out.push_str("reads ")?;
-    }
-    let out = String::from_str(alloc, out.as_str().trim_end())?;
-    or_none(alloc, out)
+    let mut out = Out::new(alloc);
+    push_told(&mut out, told);
+    out.finish_list()
 }
 
 fn text_with(alloc: Global, expression: &str) -> Result<Vec<u8>, Trouble> {

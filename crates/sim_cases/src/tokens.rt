@@ -1,26 +1,32 @@
 //! Texts with their tokens, and tokens with what they are spelled.
 
+use crate::out::Out;
 use crate::texts::bytes_of;
 use crate::trouble::Trouble;
-use crate::values::push_bytes;
 use std::alloc::{AllocError, Global};
 use vhdl_names_scope::word;
 use vhdl_tokens::{
     Kind, TEXT_LIMIT, Token, TokenError, bits, character, identifier, integer, span, string, tokens,
 };
 
-/// Each token as its kind, its span and its line.
+/// A token as its kind, its span and its line.
+fn push_token(out: &mut Out, token: &Token) {
+    out.show(token.kind);
+    out.put(" ");
+    out.show(token.start);
+    out.put("-");
+    out.show(token.end);
+    out.put(":");
+    out.show(token.line);
+    out.put(";");
+}
+
 fn shown(alloc: Global, list: &[Token]) -> Result<String, AllocError> {
-    if list.is_empty() {
-        return String::from_str(alloc, "none");
-    }
-    let mut text = String::new(alloc);
+    let mut out = Out::new(alloc);
     for token in list {
-        let kind = token.kind;
-        let (start, end, line) = (token.start, token.end, token.line);
-        write!(text, "{kind:?} {start}-{end}:{line};")?;
+        push_token(&mut out, token);
     }
-    Ok(text)
+    out.finish_list()
 }
 
 /// The tokens of a text, or its fault.
@@ -56,20 +62,20 @@ fn bytes_shown(alloc: Global, bytes: Option<&[u8]>) -> Result<String, AllocError
     let Some(bytes) = bytes else {
         return none(alloc);
     };
-    let mut out = String::new(alloc);
-    push_bytes(&mut out, bytes)?;
-    Ok(out)
+    let mut out = Out::new(alloc);
+    out.bytes(bytes);
+    out.finish()
 }
 
 fn bits_shown(alloc: Global, bits: Option<&[bool]>) -> Result<String, AllocError> {
     let Some(bits) = bits else {
         return none(alloc);
     };
-    let mut out = String::new(alloc);
+    let mut out = Out::new(alloc);
     for bit in bits {
-        out.push(if *bit { '1' } else { '0' })?;
+        out.put(if *bit { "1" } else { "0" });
     }
-    Ok(out)
+    out.finish()
 }
 
 fn integer_shown(alloc: Global, number: Option<u128>) -> Result<String, AllocError> {

@@ -1,5 +1,6 @@
 //! What the units of a design file are.
 
+use crate::out::Out;
 use crate::printing::{push_contents, push_units};
 use crate::sweeps::tokens_of;
 use crate::trouble::Trouble;
@@ -32,18 +33,17 @@ pub fn units_of(alloc: Global, text: &[u8]) -> Result<Units, Trouble> {
 /// The units of a text, shown.
 pub fn units_of_text(alloc: Global, text: &[u8]) -> Result<String, Trouble> {
     let units = units_of(alloc, text)?;
-    let mut out = String::new(alloc);
-    push_units(&mut out, &units)?;
-    Ok(out)
+    let mut out = Out::new(alloc);
+    push_units(&mut out, &units);
+    Ok(out.finish()?)
 }
 
-fn push_architectures(out: &mut String, units: &Units) -> Result<(), AllocError> {
+fn push_architectures(out: &mut Out, units: &Units) {
     for unit in units.units.as_slice() {
         if let ResolvedUnit::Architecture(architecture) = unit {
-            push_contents(out, architecture)?;
+            push_contents(out, architecture);
         }
     }
-    Ok(())
 }
 
 /// The text of a design file with this in its architecture.
@@ -58,7 +58,7 @@ pub fn design_with(alloc: Global, body: &[u8]) -> Result<Vec<u8>, AllocError> {
 pub fn contents_of(alloc: Global, body: &[u8]) -> Result<String, Trouble> {
     let text = design_with(alloc, body)?;
     let units = units_of(alloc, text.as_slice())?;
-    let mut out = String::new(alloc);
-    push_architectures(&mut out, &units)?;
-    Ok(out)
+    let mut out = Out::new(alloc);
+    push_architectures(&mut out, &units);
+    Ok(out.finish()?)
 }

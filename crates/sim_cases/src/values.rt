@@ -1,140 +1,152 @@
 //! Values and names as texts: `Bit#1` is a literal by its type and position, `@15` an object by its number, `!`
 //! follows what is globally static, and what has no meaning is `?`.
 
-use std::alloc::AllocError;
+use crate::out::Out;
 use vhdl_units::{ChoiceValue, ItemValue, LinkValue, PartValue, Reference, Value};
 
-pub fn push_bytes(out: &mut String, bytes: &[u8]) -> Result<(), AllocError> {
-    for byte in bytes {
-        out.push(char::from(*byte))?;
-    }
-    Ok(())
-}
-
-fn push_static(out: &mut String, is_static: bool) -> Result<(), AllocError> {
+fn push_static(out: &mut Out, is_static: bool) {
     if is_static {
-        out.push('!')?;
+        out.put("!");
     }
-    Ok(())
 }
 
 #[cycle(push)]
-pub fn push_value(out: &mut String, value: &Value) -> Result<(), AllocError> {
+pub fn push_value(out: &mut Out, value: &Value) {
     match value {
-        Value::Unknown => out.push('?')?,
-        Value::Integer(number) => write!(out, "{number}")?,
-        Value::Time(time) => write!(out, "{time}fs")?,
-        Value::Literal(base, position) => write!(out, "{base:?}#{position}")?,
-        Value::Text(base, bytes) => {
-            write!(out, "{base:?}\"")?;
-            push_bytes(out, bytes.as_slice())?;
-            out.push('"')?;
+        Value::Unknown => out.put("?"),
+        Value::Integer(number) => {
+            out.show(number);
         }
-        Value::Object(reference) => push_reference(out, reference)?,
+        Value::Time(time) => {
+            out.show(time);
+            out.put("fs");
+        }
+        Value::Literal(base, position) => {
+            out.show(base);
+            out.put("#");
+            out.show(position);
+        }
+        Value::Text(base, bytes) => {
+            out.show(base);
+            out.put("\"");
+            out.bytes(bytes.as_slice());
+            out.put("\"");
+        }
+        Value::Object(reference) => push_reference(out, reference),
         Value::Attribute(reference, attribute) => {
-            push_reference(out, reference)?;
-            write!(out, "'{attribute:?}")?;
+            push_reference(out, reference);
+            out.put("'");
+            out.show(attribute);
         }
         Value::Call(function, argument) => {
-            write!(out, "{function:?}(")?;
-            push_value(out, argument.get())?;
-            out.push(')')?;
+            out.show(function);
+            out.put("(");
+            push_value(out, argument.get());
+            out.put(")");
         }
-        Value::Now => out.push_str("Now")?,
+        Value::Now => out.put("Now"),
         Value::Position(base, inner) => {
-            write!(out, "{base:?}'pos(")?;
-            push_value(out, inner.get())?;
-            out.push(')')?;
+            out.show(base);
+            out.put("'pos(");
+            push_value(out, inner.get());
+            out.put(")");
         }
         Value::At(base, inner) => {
-            write!(out, "{base:?}'val(")?;
-            push_value(out, inner.get())?;
-            out.push(')')?;
+            out.show(base);
+            out.put("'val(");
+            push_value(out, inner.get());
+            out.put(")");
         }
         Value::Unary(operator, base, inner) => {
-            write!(out, "{operator:?}:{base:?}(")?;
-            push_value(out, inner.get())?;
-            out.push(')')?;
+            out.show(operator);
+            out.put(":");
+            out.show(base);
+            out.put("(");
+            push_value(out, inner.get());
+            out.put(")");
         }
         Value::Chain(base, first, links) => {
-            write!(out, "{base:?}[")?;
-            push_value(out, first.get())?;
-            push_links(out, links.as_slice())?;
-            out.push(']')?;
+            out.show(base);
+            out.put("[");
+            push_value(out, first.get());
+            push_links(out, links.as_slice());
+            out.put("]");
         }
         Value::Aggregate(base, items) => {
-            write!(out, "{base:?}{{")?;
-            push_items(out, items.as_slice())?;
-            out.push('}')?;
+            out.show(base);
+            out.put("{");
+            push_items(out, items.as_slice());
+            out.put("}");
         }
     }
-    Ok(())
 }
 
 #[cycle(push)]
-pub fn push_reference(out: &mut String, reference: &Reference) -> Result<(), AllocError> {
+pub fn push_reference(out: &mut Out, reference: &Reference) {
     let number = reference.object.number;
-    write!(out, "@{number}")?;
+    out.put("@");
+    out.show(number);
     for part in reference.parts.as_slice() {
-        push_part(out, part)?;
+        push_part(out, part);
     }
-    Ok(())
 }
 
 #[cycle(push)]
-fn push_part(out: &mut String, part: &PartValue) -> Result<(), AllocError> {
+fn push_part(out: &mut Out, part: &PartValue) {
     match part {
         PartValue::Index(index, is_static) => {
-            out.push('(')?;
-            push_value(out, index)?;
-            push_static(out, *is_static)?;
-            out.push(')')?;
+            out.put("(");
+            push_value(out, index);
+            push_static(out, *is_static);
+            out.put(")");
         }
         PartValue::Slice(left, direction, right, is_static) => {
-            out.push('(')?;
-            push_value(out, left)?;
-            write!(out, " {direction:?} ")?;
-            push_value(out, right)?;
-            push_static(out, *is_static)?;
-            out.push(')')?;
+            out.put("(");
+            push_value(out, left);
+            out.put(" ");
+            out.show(direction);
+            out.put(" ");
+            push_value(out, right);
+            push_static(out, *is_static);
+            out.put(")");
         }
     }
-    Ok(())
 }
 
 #[cycle(push)]
-fn push_links(out: &mut String, links: &[LinkValue]) -> Result<(), AllocError> {
+fn push_links(out: &mut Out, links: &[LinkValue]) {
     for link in links {
         let operator = link.operator;
-        write!(out, " {operator:?} ")?;
-        push_value(out, &link.right)?;
+        out.put(" ");
+        out.show(operator);
+        out.put(" ");
+        push_value(out, &link.right);
     }
-    Ok(())
 }
 
 #[cycle(push)]
-fn push_items(out: &mut String, items: &[ItemValue]) -> Result<(), AllocError> {
+fn push_items(out: &mut Out, items: &[ItemValue]) {
     for item in items {
-        push_choices(out, item.choices.as_slice())?;
-        push_value(out, &item.value)?;
-        out.push(',')?;
+        push_choices(out, item.choices.as_slice());
+        push_value(out, &item.value);
+        out.put(",");
     }
-    Ok(())
 }
 
 #[cycle(push)]
-pub fn push_choices(out: &mut String, choices: &[ChoiceValue]) -> Result<(), AllocError> {
+pub fn push_choices(out: &mut Out, choices: &[ChoiceValue]) {
     for choice in choices {
         match choice {
-            ChoiceValue::Value(value) => push_value(out, value)?,
+            ChoiceValue::Value(value) => push_value(out, value),
             ChoiceValue::Range(left, direction, right) => {
-                push_value(out, left)?;
-                write!(out, " {direction:?} ")?;
-                push_value(out, right)?;
+                push_value(out, left);
+                out.put(" ");
+                out.show(direction);
+                out.put(" ");
+                push_value(out, right);
             }
-            ChoiceValue::Others => out.push_str("others")?,
+            ChoiceValue::Others => out.put("others"),
         }
-        out.push_str("=>")?;
+        out.put("=>");
     }
-    Ok(())
 }

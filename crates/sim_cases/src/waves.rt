@@ -1,5 +1,6 @@
 //! Edits of a projected output waveform, step by step.
 
+use crate::out::Out;
 use crate::texts::number_of;
 use crate::trouble::Trouble;
 use sim_waves::{DelayMode, Transaction, Wave};
@@ -71,15 +72,14 @@ fn assign(wave: &mut Wave, written: &str) -> Result<(), Trouble> {
 }
 
 fn pending(alloc: Global, wave: &Wave) -> Result<String, AllocError> {
-    let mut out = String::new(alloc);
+    let mut out = Out::new(alloc);
     for transaction in wave.pending() {
-        let (value, time) = (transaction.value, transaction.time);
-        if !out.as_str().is_empty() {
-            out.push(' ')?;
-        }
-        write!(out, "{value}@{time}")?;
+        out.show(transaction.value);
+        out.put("@");
+        out.show(transaction.time);
+        out.put(" ");
     }
-    Ok(out)
+    out.finish_list()
 }
 
 fn next_time(alloc: Global, wave: &Wave) -> Result<String, AllocError> {

@@ -1,9 +1,7 @@
 -- What holds of every elaborated design.
-use Rattle.std.specs.Prelude.{ℕ, zero, suc, ◌+◌, ◌<◌, ◌≤◌, ◌≡◌, Bool, true, false, not, ◌&&◌, ◌||◌, nat_lt, nat_le, nat_eq, List, [], ◌∷◌, ◌++◌, map, length, replicate, count_by, Option, Some, None, is_none, option_and_then, slice_get, IsTrue, All, IfSome, if◌then◌else◌}
+use Rattle.std.specs.Prelude.{ℕ, suc, ◌+◌, ◌<◌, ◌≤◌, ◌≡◌, Bool, true, false, ◌&&◌, ◌||◌, nat_lt, nat_le, nat_eq, List, [], ◌∷◌, ◌++◌, map, length, replicate, count_by, Option, Some, None, is_none, option_and_then, slice_get, IsTrue, All, IfSome, if◌then◌else◌}
 use Rattle.std.specs.List.{list_all, list_any, flat_map}
 use Rattle.std.specs.Option.{option_map_or}
-use Rattle.vhpi_values.specs.Types.{Subtype}
-use Rattle.sim_elaborated.specs.declared.regions.Span.{Span}
 use Rattle.sim_elaborated.specs.declared.regions.Region.{Region}
 use Rattle.sim_elaborated.specs.declared.regions.DesignUnit.{DesignUnit}
 use Rattle.sim_elaborated.specs.declared.regions.DesignUnit.TheVariants as unit
@@ -16,10 +14,9 @@ use Rattle.sim_elaborated.specs.declared.design.ForeignBinding.{ForeignBinding}
 use Rattle.sim_elaborated.specs.declared.objects.Net.{Net}
 use Rattle.sim_elaborated.specs.declared.objects.NetKind.{NetKind}
 use Rattle.sim_elaborated.specs.declared.objects.NetKind.TheVariants as kind
-use Rattle.sim_elaborated.specs.declared.objects.Mode.{Mode}
 use Rattle.sim_elaborated.specs.declared.objects.Mode.TheVariants as mode
 use Rattle.sim_elaborated.specs.declared.objects.PortEdge.{PortEdge}
-use Rattle.sim_elaborated.specs.Places.{end_of, tile, owners_from, firsts_from, ascends, spans_rise_from, elements_of_net, elements_at, element_total, IsOf}
+use Rattle.sim_elaborated.specs.Places.{tile, owners_from, firsts_from, ascends, spans_rise_from, elements_of_net, elements_at, element_total, IsOf}
 use Rattle.sim_elaborated.specs.Names.{lower}
 
 -- the fact holds of each member and its number
@@ -159,8 +156,8 @@ spellings_used d =
 -- a text doesn't come after another one in the order of bytes
 abbrev pub is_at_most : List ℕ → List ℕ → Bool
 is_at_most [] _ = true
-is_at_most (a ∷ as) [] = false
-is_at_most (a ∷ as) (b ∷ bs) = nat_lt a b || (nat_eq a b && is_at_most as bs)
+is_at_most (a ∷ more) [] = false
+is_at_most (a ∷ more) (b ∷ others) = nat_lt a b || (nat_eq a b && is_at_most more others)
 
 -- names stand in the order of their bytes
 abbrev pub names_ascend : Design → List NamedMember → Bool

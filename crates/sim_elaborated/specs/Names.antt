@@ -1,14 +1,7 @@
 -- Names of a design: a full name is `:` and the name of the root, then `:` and the next name, and so on.
-use Rattle.std.specs.Prelude.{ℕ, zero, suc, Bool, List, [], ◌∷◌, ◌++◌, length, Option, Some, None, slice_get, codes}
+use Rattle.std.specs.Prelude.{ℕ, zero, suc, List, [], ◌++◌, length, slice_get, codes}
 use Rattle.std.specs.Option.{option_map_or}
-use Rattle.sim_elaborated.specs.declared.regions.Spelling.{Spelling}
 use Rattle.sim_elaborated.specs.declared.design.Design.{Design}
-use Rattle.sim_elaborated.specs.declared.design.Instance.{Instance}
-use Rattle.sim_elaborated.specs.declared.design.Process.{Process}
-use Rattle.sim_elaborated.specs.declared.objects.Net.{Net}
-use Rattle.sim_elaborated.specs.declared.objects.Generic.{Generic}
-use Rattle.sim_elaborated.specs.declared.objects.Variable.{Variable}
-use Rattle.sim_elaborated.specs.declared.statements.ProcessBody.{ProcessBody}
 
 -- a name in lower case, and as it is written
 abbrev pub lower : Design → ℕ → List ℕ

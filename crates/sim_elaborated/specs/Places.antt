@@ -1,5 +1,5 @@
 -- Numbers and spans of a design.
-use Rattle.std.specs.Prelude.{ℕ, suc, ◌+◌, ◌<◌, ◌≤◌, ◌≡◌, Bool, true, false, ◌&&◌, nat_lt, nat_eq, List, [], ◌∷◌, ◌++◌, map, length, replicate, ℤ, Option, Some, None, slice_get}
+use Rattle.std.specs.Prelude.{ℕ, suc, ◌+◌, ◌≡◌, Bool, true, ◌&&◌, nat_lt, nat_eq, List, [], ◌∷◌, ◌++◌, replicate, ℤ, Some, slice_get}
 use Rattle.std.specs.Option.{option_map_or}
 use Rattle.vhpi_values.specs.Types.{Subtype, element_count}
 use Rattle.vhpi_values.specs.Values.{Fits}

@@ -22,8 +22,8 @@ pub use expressions::{
 };
 pub use objects::{Constant, Generic, Mode, Net, NetKind, PortEdge, Variable};
 pub use regions::{DesignUnit, Member, NamedMember, Region, Span, Spelling};
-pub use states::ElementState;
 pub use statements::{
     Alternative, Assertion, Branch, LoopAround, ProcessBody, Report, Scheme, SignalAssignment,
     Statement, StatementBody, Wait, WaveformElement,
 };
+pub use states::ElementState;

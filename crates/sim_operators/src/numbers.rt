@@ -61,14 +61,14 @@ fn quotient(a: i64, b: i64) -> i128
     i128::from(a) / i128::from(b)
 }
 
-fn remainder(a: i64, b: i64) -> i128
+fn remainder(a: i64, b: i64) -> i64
     requires { b ≢ pos 0 }
     ensures { result ≡ int_rem a b }
 {
-    i128::from(a) % i128::from(b)
+    (i128::from(a) % i128::from(b)) as i64
 }
 
-fn has_sign_of(rest: i128, b: i64) -> bool
+fn has_sign_of(rest: i64, b: i64) -> bool
     ensures { result ≡ spec.has_sign_of rest b }
 {
     if rest < 0 { b < 0 } else { rest == 0 || 0 <= b }
@@ -80,9 +80,9 @@ fn modulus(a: i64, b: i64) -> i128
 {
     let rest = remainder(a, b);
     if has_sign_of(rest, b) {
-        rest
+        i128::from(rest)
     } else {
-        rest + i128::from(b)
+        sum(rest, b)
     }
 }
 
@@ -140,7 +140,7 @@ pub fn calculate(operator: Arithmetic, of: Number, a: i64, b: i64) -> Result<i64
             if b == 0 {
                 return Err(Fault::DivZero);
             }
-            within(of, remainder(a, b))
+            within(of, i128::from(remainder(a, b)))
         }
         Arithmetic::Power => power(of, a, b),
     }

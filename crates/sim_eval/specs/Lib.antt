@@ -1,0 +1,5 @@
+pub mod Objects
+pub mod Located
+pub mod Reading
+pub mod Aggregates
+pub mod Meaning

@@ -1,5 +1,5 @@
 -- Elements and slices of objects (IEEE Std 1076-2008, clauses 8.4 and 8.5).
-use Rattle.std.specs.Prelude.{ℕ, ◌+◌, Bool, ◌&&◌, not, List, [], ◌∷◌, ℤ, int_le, int_lt, ◌-ℤ◌, unsigned_abs, Option, Some, None, Result, Ok, Err, if◌then◌else◌}
+use Rattle.std.specs.Prelude.{ℕ, ◌+◌, Bool, ◌&&◌, not, List, [], ◌∷◌, ℤ, int_le, ◌-ℤ◌, unsigned_abs, Option, Some, None, Result, Ok, Err, if◌then◌else◌}
 use Rattle.std.specs.Option.{option_map_or}
 use Rattle.vhpi_values.specs.Types.{range_length}
 use Rattle.vhpi_values.specs.declared.types.IndexRange.{IndexRange}

@@ -1,5 +1,5 @@
 -- What an expression means: a fold, in which each operand is already what it means (IEEE Std 1076-2008, clauses 8 and 9). The order of evaluation, and which fault comes first, are the nesting of `and_then`.
-use Rattle.std.specs.Prelude.{ℕ, ◌-◌, ◌^◌, min, Bool, List, [], ◌∷◌, map, ℤ, pos, Option, Some, None, Result, Ok, Err}
+use Rattle.std.specs.Prelude.{ℕ, ◌-◌, ◌^◌, min, List, [], ◌∷◌, map, ℤ, pos, Option, Some, None, Result, Ok}
 use Rattle.std.specs.List.{list_any}
 use Rattle.std.specs.Option.{option_map_or}
 use Rattle.vhpi_values.specs.Formats.{first}

@@ -1,5 +1,5 @@
 -- The objects that an expression reads.
-use Rattle.std.specs.Prelude.{ℕ, List, [], ℤ, Option, Some, None, option_map, option_and_then, slice_get}
+use Rattle.std.specs.Prelude.{ℕ, List, ℤ, Option, None, option_map, option_and_then, slice_get}
 use Rattle.vhpi_values.specs.Types.{Subtype}
 use Rattle.vhpi_values.specs.declared.types.IndexRange.{IndexRange}
 use Rattle.sim_elaborated.specs.declared.objects.Generic.{Generic}

@@ -1,12 +1,11 @@
 -- Values, states and bounds of named elements.
-use Rattle.std.specs.Prelude.{ℕ, ◌+◌, Bool, ◌&&◌, List, [], ◌∷◌, map, take, drop, ℤ, pos, Option, Some, None, slice_get}
+use Rattle.std.specs.Prelude.{ℕ, ◌+◌, Bool, ◌&&◌, List, [], map, take, drop, ℤ, pos, Option, slice_get}
 use Rattle.std.specs.List.{list_any}
 use Rattle.std.specs.Option.{option_map_or}
 use Rattle.std.specs.Int.{int_min, int_max}
 use Rattle.std.specs.Ordering.{int_eq}
 use Rattle.vhpi_values.specs.Types.{range_length}
 use Rattle.vhpi_values.specs.declared.types.IndexRange.{IndexRange}
-use Rattle.sim_elaborated.specs.declared.objects.Net.{Net}
 use Rattle.sim_elaborated.specs.declared.states.ElementState.{ElementState}
 use Rattle.sim_elaborated.specs.declared.expressions.Object.{Object}
 use Rattle.sim_elaborated.specs.declared.expressions.Object.TheVariants as object

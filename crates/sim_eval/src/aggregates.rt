@@ -174,7 +174,11 @@ fn run_over(is_ascending: bool, extent: Extent) -> Result<Run, NoMemory>
     ensures { IfOk result (λ run. run ≡ spec.run_over is_ascending extent) }
 {
     let count = count_up(extent.low, extent.high)?;
-    let left = if is_ascending { extent.low } else { extent.high };
+    let left = if is_ascending {
+        extent.low
+    } else {
+        extent.high
+    };
     Ok(Run {
         left,
         is_ascending,
@@ -242,13 +246,19 @@ fn index_at(run: Run, place: usize) -> i128
     }
 }
 
+fn number_over(elements: &[Element], run: Run, place: usize) -> i64
+    ensures { result ≡ spec.number_at elements.now (spec.index_at run place) }
+{
+    number_at(elements, index_at(run, place))
+}
+
 #[tactic(auto, using(crate::proofs::Tables::one_more))]
 fn numbers_over(alloc: Global, run: Run, elements: &[Element]) -> Result<Vec<i64>, NoMemory>
     ensures { IfOk result (λ numbers. numbers.items ≡ spec.numbers_over run.count run elements.now) }
 {
     let mut numbers = Vec::new(alloc);
     for place in 0..run.count {
-        numbers.push(number_at(elements, index_at(run, place)))?;
+        numbers.push(number_over(elements, run, place))?;
     }
     Ok(numbers)
 }

@@ -105,7 +105,11 @@ fn bound(range: IndexRange, number: i64) -> i32
 fn goes(is_ascending: bool, left: i64, right: i64) -> bool
     ensures { result ≡ spec.goes is_ascending left right }
 {
-    if is_ascending { left <= right } else { right <= left }
+    if is_ascending {
+        left <= right
+    } else {
+        right <= left
+    }
 }
 
 fn same_direction(a: bool, b: bool) -> bool

@@ -22,7 +22,11 @@ use vhpi_values::{IndexRange, Val};
 fn positions(alloc: Global, text: &[u8]) -> Result<Vec<i64>, NoMemory>
     ensures { IfOk result (λ numbers. numbers.items ≡ map pos text.now) }
 {
-    Ok(text.iter().map(|position| i64::from(*position)).collect(alloc)?)
+    Ok(
+        text.iter()
+            .map(|position| i64::from(*position))
+            .collect(alloc)?,
+    )
 }
 
 fn now(alloc: Global, env: &Env) -> Result<Val, NoMemory>
@@ -53,7 +57,10 @@ pub fn eval(alloc: Global, expr: &Expr, env: &Env) -> Result<Val, Fault>
         }
         Expr::Edge(edge, name) => {
             let at = locate(alloc, name, env)?;
-            Ok(scalar(alloc, truth(has_edge(*edge, states_at(env, name.object, at)?)))?)
+            Ok(scalar(
+                alloc,
+                truth(has_edge(*edge, states_at(env, name.object, at)?)),
+            )?)
         }
         Expr::Now => Ok(now(alloc, env)?),
         Expr::Unary(operator, operand) => {

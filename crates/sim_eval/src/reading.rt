@@ -95,12 +95,7 @@ fn current_values(alloc: Global, states: &[ElementState]) -> Result<Val, NoMemor
 }
 
 /// The values of the named elements.
-pub(crate) fn read(
-    alloc: Global,
-    env: &Env,
-    object: Object,
-    at: Located,
-) -> Result<Val, NoMemory>
+pub(crate) fn read(alloc: Global, env: &Env, object: Object, at: Located) -> Result<Val, NoMemory>
     ensures { IfOk result (λ value. value ≡ spec.read env.now object at) }
 {
     match object {

@@ -1,5 +1,5 @@
 -- What holds of every elaborated design.
-use Rattle.std.specs.Prelude.{ℕ, suc, ◌+◌, ◌<◌, ◌≤◌, ◌≡◌, Bool, true, false, ◌&&◌, ◌||◌, nat_lt, nat_le, nat_eq, List, [], ◌∷◌, ◌++◌, map, length, replicate, count_by, Option, Some, None, is_none, option_and_then, slice_get, IsTrue, All, IfSome, if◌then◌else◌}
+use Rattle.std.specs.Prelude.{ℕ, suc, ◌+◌, ◌<◌, ◌≤◌, ◌≡◌, Bool, true, false, ◌&&◌, ◌||◌, nat_lt, nat_le, nat_eq, List, [], ◌∷◌, ◌++◌, map, length, replicate, count_by, sum_by, Option, Some, None, is_none, option_and_then, slice_get, IsTrue, All, IfSome, if◌then◌else◌}
 use Rattle.std.specs.List.{list_all, list_any, flat_map}
 use Rattle.std.specs.Option.{option_map_or}
 use Rattle.sim_elaborated.specs.declared.regions.Region.{Region}
@@ -12,11 +12,9 @@ use Rattle.sim_elaborated.specs.declared.design.Process.{Process}
 use Rattle.sim_elaborated.specs.declared.design.DriverSpecification.{DriverSpecification}
 use Rattle.sim_elaborated.specs.declared.design.ForeignBinding.{ForeignBinding}
 use Rattle.sim_elaborated.specs.declared.objects.Net.{Net}
-use Rattle.sim_elaborated.specs.declared.objects.NetKind.{NetKind}
-use Rattle.sim_elaborated.specs.declared.objects.NetKind.TheVariants as kind
-use Rattle.sim_elaborated.specs.declared.objects.Mode.TheVariants as mode
 use Rattle.sim_elaborated.specs.declared.objects.PortEdge.{PortEdge}
 use Rattle.sim_elaborated.specs.Places.{tile, owners_from, firsts_from, ascends, spans_rise_from, elements_of_net, elements_at, element_total, IsOf}
+use Rattle.sim_elaborated.specs.Kinds.{is_port, drives}
 use Rattle.sim_elaborated.specs.Names.{lower}
 
 -- the fact holds of each member and its number
@@ -53,22 +51,6 @@ is_tree [] = false
 is_tree (root ∷ is) = is_none root.parent && is_preorder_from 1 (0 ∷ []) is
 
 -- Nets.
-
-abbrev pub is_port : NetKind → Bool
-is_port (kind.Port m) = true
-is_port kind.Signal = false
-
--- a port that is a source of what it is connected to
-abbrev pub drives : NetKind → Bool
-drives (kind.Port mode.Out) = true
-drives (kind.Port mode.Inout) = true
-drives _ = false
-
--- a port that takes its value from what it is connected to
-abbrev pub takes : NetKind → Bool
-takes (kind.Port mode.In) = true
-takes (kind.Port mode.Inout) = true
-takes _ = false
 
 -- whether each net of an instance is a port: the ports stand first
 abbrev pub ports_first : Instance → List Bool
@@ -205,3 +187,12 @@ pub record IsSound (d : Design) : Type 0 where
   pub instance_regions : All (λ i. i.region < length d.regions) d.instances
   pub bindings : IsTrue (list_all (is_binding d) d.bindings)
   pub binding_order : IsTrue (ascends (map (λ b. b.instance) d.bindings))
+
+-- the numbers of a design that elaboration accepts: each fits 32 bits
+pub record IsWithinLimits (d : Design) : Type 0 where
+  pub instances : length d.instances ≤ 4096
+  pub nets : length d.nets ≤ 65536
+  pub elements : element_total d ≤ 1048576
+  pub processes : length d.processes ≤ 16384
+  pub drivers : length d.drivers ≤ 65536
+  pub driver_elements : sum_by (λ s. length s.places) d.drivers ≤ 1048576

@@ -1,6 +1,9 @@
 //! The objects of a design (IEEE Std 1076-2008, clause 6.4). Each names the spelling of its name and the line of the
 //! identifier that declares it.
 
+ghost use Rattle.std.specs.Prelude.{◌≡◌};
+ghost use Rattle.sim_elaborated.specs.Kinds as spec;
+
 use vhpi_values::Val;
 
 /// The mode of a port (6.5.2).
@@ -16,6 +19,32 @@ pub enum Mode {
 pub enum NetKind {
     Port(Mode),
     Signal,
+}
+
+impl NetKind {
+    /// Whether it is a port.
+    pub fn is_port(self) -> bool
+        ensures { result ≡ spec.is_port self }
+    {
+        match self {
+            NetKind::Port(_) => true,
+            NetKind::Signal => false,
+        }
+    }
+
+    /// Whether it is a port that is a source of what it is connected to: an out or inout port.
+    pub fn drives(self) -> bool
+        ensures { result ≡ spec.drives self }
+    {
+        matches!(self, NetKind::Port(Mode::Out) | NetKind::Port(Mode::Inout))
+    }
+
+    /// Whether it is a port that takes its value from what it is connected to: an in or inout port.
+    pub fn takes(self) -> bool
+        ensures { result ≡ spec.takes self }
+    {
+        matches!(self, NetKind::Port(Mode::In) | NetKind::Port(Mode::Inout))
+    }
 }
 
 /// What a port of an instance is connected to (6.5.7): a whole signal or port of the instance above, or elements of

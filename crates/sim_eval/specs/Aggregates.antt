@@ -7,6 +7,9 @@ use Rattle.vhpi_values.specs.Types.{at_least_none, range_length}
 use Rattle.vhpi_values.specs.declared.types.IndexRange.{IndexRange}
 use Rattle.sim_operators.specs.declared.fault.Fault.{Fault}
 use Rattle.sim_operators.specs.Outcomes.{Outcome, and_then}
+use Rattle.sim_operators.specs.Operators.{are_equal}
+use Rattle.std.specs.Ordering.{int_eq}
+use Rattle.vhpi_values.specs.Formats.{first}
 use Rattle.sim_eval.specs.Located.{is_between}
 use Rattle.sim_eval.specs.declared.aggregates.Chosen.{Chosen}
 use Rattle.sim_eval.specs.declared.aggregates.Chosen.TheVariants as chosen
@@ -26,15 +29,26 @@ collected_by so_far (result ∷ results) = and_then result (λ member. collected
 
 -- a choice of an index or of the indices between two
 abbrev pub between : ℤ → Bool → ℤ → Chosen
-between left is_ascending right = if is_ascending then chosen.Indices left right else chosen.Indices right left
+between left is_ascending right = if is_ascending then chosen.Range left right else chosen.Range right left
 
+abbrev pub is_number : List ℤ → ℤ → Bool
+is_number value n = int_eq (first value) n
+
+-- the choice is one of this index
 abbrev pub chooses : ℤ → Chosen → Bool
-chooses n (chosen.Indices low high) = is_between low high n
+chooses n (chosen.Value value) = is_number value n
+chooses n (chosen.Range low high) = is_between low high n
 chooses n chosen.Others = false
 
 abbrev pub is_others : Chosen → Bool
-is_others (chosen.Indices low high) = false
 is_others chosen.Others = true
+is_others _ = false
+
+-- the choice of a case statement is one of this value
+abbrev pub is_chosen : List ℤ → Chosen → Bool
+is_chosen value (chosen.Value choice) = are_equal value choice
+is_chosen value (chosen.Range low high) = is_between low high (first value)
+is_chosen value chosen.Others = true
 
 abbrev pub has_index : ℤ → Element → Bool
 has_index n element = list_any (chooses n) element.choices
@@ -56,9 +70,13 @@ abbrev pub number_at : List Element → ℤ → ℤ
 number_at elements n = number_or (other_number elements) n elements
 
 -- the least and the greatest index, with those of a choice more
+abbrev pub widened_to : Option Extent → ℤ → ℤ → Option Extent
+widened_to None low high = Some (record { low = low; high = high })
+widened_to (Some extent) low high = Some (record { low = int_min extent.low low; high = int_max extent.high high })
+
 abbrev pub widened : Option Extent → Chosen → Option Extent
-widened None (chosen.Indices low high) = Some (record { low = low; high = high })
-widened (Some extent) (chosen.Indices low high) = Some (record { low = int_min extent.low low; high = int_max extent.high high })
+widened extent (chosen.Value value) = widened_to extent (first value) (first value)
+widened extent (chosen.Range low high) = widened_to extent low high
 widened extent chosen.Others = extent
 
 abbrev pub widened_by : Option Extent → List Chosen → Option Extent

@@ -59,7 +59,7 @@ module _ (env : Objects) where
   bounds_step (AggregateBounds-F.Of name) = and_then name.located (λ at. Ok at.range)
 
   abbrev pub choice_step : Choice-F (Result (Option IndexRange) Fault) (Result Chosen Fault) Outcome Move (Result Element Fault) Linked Named → Result Chosen Fault
-  choice_step (Choice-F.Value value) = and_then (number value) (λ n. Ok (chosen.Indices n n))
+  choice_step (Choice-F.Value value) = and_then value (λ v. Ok (chosen.Value v))
   choice_step (Choice-F.Range left is_ascending right) = and_then (number left) (λ from. and_then (number right) (λ to. Ok (between from is_ascending to)))
   choice_step Choice-F.Others = Ok chosen.Others
 

@@ -4,17 +4,21 @@ ghost use Rattle.std.specs.Prelude.{◌≡◌, ◌+◌, ◌<◌, map, List, pos,
 ghost use Rattle.std.specs.List.{list_any};
 ghost use Rattle.std.specs.Option.{option_map_or};
 ghost use Rattle.sim_eval.specs.Aggregates as spec;
+ghost use Rattle.sim_eval.specs.Located.{is_between};
 
 use sim_memory::NoMemory;
+use sim_operators::{are_equal, first_of};
 use sqlite_items::Items;
 use std::alloc::Global;
 use vhpi_values::{IndexRange, Val};
 
-/// A choice of an aggregate or of a case statement.
-#[derive(Clone, Copy)]
+/// What a choice of an aggregate or of a case statement chooses.
+#[derive(Drop)]
 pub enum Chosen {
+    /// An index or a value.
+    Value(Val),
     /// The indices or values from one to another, none where the first is the greater one.
-    Indices(i64, i64),
+    Range(i64, i64),
     Others,
 }
 
@@ -45,26 +49,50 @@ pub(crate) fn between(left: i64, is_ascending: bool, right: i64) -> Chosen
     ensures { result ≡ spec.between left is_ascending right }
 {
     if is_ascending {
-        Chosen::Indices(left, right)
+        Chosen::Range(left, right)
     } else {
-        Chosen::Indices(right, left)
+        Chosen::Range(right, left)
     }
 }
 
-fn chooses(number: i128, choice: Chosen) -> bool
-    ensures { result ≡ spec.chooses number choice }
+fn is_number(value: &Val, number: i128) -> bool
+    ensures { result ≡ spec.is_number value.now number }
+{
+    i128::from(first_of(value.as_slice())) == number
+}
+
+fn chooses(number: i128, choice: &Chosen) -> bool
+    ensures { result ≡ spec.chooses number choice.now }
 {
     match choice {
-        Chosen::Indices(low, high) => i128::from(low) <= number && number <= i128::from(high),
+        Chosen::Value(value) => is_number(value, number),
+        Chosen::Range(low, high) => i128::from(*low) <= number && number <= i128::from(*high),
         Chosen::Others => false,
     }
 }
 
-fn is_others(choice: Chosen) -> bool
-    ensures { result ≡ spec.is_others choice }
+fn is_others(choice: &Chosen) -> bool
+    ensures { result ≡ spec.is_others choice.now }
 {
     match choice {
-        Chosen::Indices(_, _) => false,
+        Chosen::Value(_) | Chosen::Range(_, _) => false,
+        Chosen::Others => true,
+    }
+}
+
+fn is_in(low: i64, high: i64, number: i64) -> bool
+    ensures { result ≡ is_between low high number }
+{
+    low <= number && number <= high
+}
+
+/// Whether a choice of a case statement is that of a value (10.9).
+pub fn is_chosen(value: &[i64], choice: &Chosen) -> bool
+    ensures { result ≡ spec.is_chosen value.now choice.now }
+{
+    match choice {
+        Chosen::Value(chosen) => are_equal(value, chosen.as_slice()),
+        Chosen::Range(low, high) => is_in(*low, *high, first_of(value)),
         Chosen::Others => true,
     }
 }
@@ -76,7 +104,7 @@ fn has_index(number: i128, element: &Element) -> bool
         .choices
         .as_slice()
         .iter()
-        .any(|choice| chooses(number, *choice))
+        .any(|choice| chooses(number, choice))
 }
 
 fn has_others(element: &Element) -> bool
@@ -86,7 +114,7 @@ fn has_others(element: &Element) -> bool
         .choices
         .as_slice()
         .iter()
-        .any(|choice| is_others(*choice))
+        .any(|choice| is_others(choice))
 }
 
 fn any_others(elements: &[Element]) -> bool
@@ -123,17 +151,30 @@ fn number_at(elements: &[Element], number: i128) -> i64
     number_or(other_number(elements), number, elements)
 }
 
-fn widened(extent: Option<Extent>, choice: Chosen) -> Option<Extent>
-    ensures { result ≡ spec.widened extent choice }
+fn widened_to(extent: Option<Extent>, low: i64, high: i64) -> Option<Extent>
+    ensures { result ≡ spec.widened_to extent low high }
+{
+    match extent {
+        None => Some(Extent { low, high }),
+        Some(extent) => Some(Extent {
+            low: extent.low.min(low),
+            high: extent.high.max(high),
+        }),
+    }
+}
+
+fn widened(extent: Option<Extent>, choice: &Chosen) -> Option<Extent>
+    ensures { result ≡ spec.widened extent choice.now }
 {
     match choice {
-        Chosen::Indices(low, high) => match extent {
-            None => Some(Extent { low, high }),
-            Some(extent) => Some(Extent {
-                low: extent.low.min(low),
-                high: extent.high.max(high),
-            }),
-        },
+        Chosen::Value(value) => {
+            widened_to(
+                extent,
+                first_of(value.as_slice()),
+                first_of(value.as_slice()),
+            )
+        }
+        Chosen::Range(low, high) => widened_to(extent, *low, *high),
         Chosen::Others => extent,
     }
 }
@@ -143,7 +184,7 @@ fn widened_by(extent: Option<Extent>, choices: &[Chosen]) -> Option<Extent>
 {
     let mut extent = extent;
     for choice in choices {
-        extent = widened(extent, *choice);
+        extent = widened(extent, choice);
     }
     extent
 }

@@ -14,7 +14,7 @@ mod meaning;
 mod objects;
 mod reading;
 
-pub use aggregates::{Chosen, Element};
+pub use aggregates::{Chosen, Element, is_chosen};
 pub use environment::Env;
 pub use locating::Located;
 pub use meaning::{bounds_at, choose, eval, locate};

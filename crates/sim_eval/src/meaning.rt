@@ -202,10 +202,7 @@ pub fn choose(alloc: Global, choice: &Choice, env: &Env) -> Result<Chosen, Fault
     ensures { Gives result (spec.choice_meaning env.now choice.now) }
 {
     match choice {
-        Choice::Value(value) => {
-            let value = number(alloc, value, env)?;
-            Ok(Chosen::Indices(value, value))
-        }
+        Choice::Value(value) => Ok(Chosen::Value(eval(alloc, value, env)?)),
         Choice::Range(left, is_ascending, right) => {
             let left = number(alloc, left, env)?;
             let right = number(alloc, right, env)?;

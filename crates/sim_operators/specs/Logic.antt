@@ -1,8 +1,7 @@
 -- Truth values and the nine values of STD_ULOGIC, by their positions (IEEE Std 1076-2008, clause 9.2.2).
 use Rattle.std.specs.Ordering.{int_eq}
-use Rattle.std.specs.Prelude.{ℕ, Bool, true, false, not, ◌&&◌, ◌||◌, ◌==◌, List, [], ◌∷◌, length, map, ℤ, pos, unsigned_abs, Option, Some, None, Result, Ok, Err, slice_index_or, if◌then◌else◌}
+use Rattle.std.specs.Prelude.{Bool, true, false, not, ◌&&◌, ◌||◌, ◌==◌, List, [], ◌∷◌, length, map, ℤ, pos, unsigned_abs, Option, Some, None, Ok, Err, slice_index_or, if◌then◌else◌}
 use Rattle.std.specs.List.{zip}
-use Rattle.vhpi_values.specs.Formats.{first}
 use Rattle.sim_logic.specs.declared.Logic9.{Logic9}
 use Rattle.sim_logic.specs.declared.Logic9.TheVariants.{U, X, Zero, One, Z, W, L, H, Dash}
 use Rattle.sim_logic.specs.Logic.{and_table, or_table, xor_table, not_table, x01_table}
@@ -10,7 +9,6 @@ use Rattle.sim_elaborated.specs.declared.expressions.Logical.{Logical}
 use Rattle.sim_elaborated.specs.declared.expressions.Logical.TheVariants as logical
 use Rattle.sim_elaborated.specs.declared.expressions.ShortCircuit.{ShortCircuit}
 use Rattle.sim_elaborated.specs.declared.expressions.ShortCircuit.TheVariants as short
-use Rattle.sim_operators.specs.declared.fault.Fault.{Fault}
 use Rattle.sim_operators.specs.declared.fault.Fault.TheVariants as fault
 use Rattle.sim_operators.specs.Outcomes.{Outcome}
 

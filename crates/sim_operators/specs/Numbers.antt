@@ -1,7 +1,7 @@
 -- INTEGER and TIME (IEEE Std 1076-2008, clauses 5.2.3, 5.2.4 and 9.2.5 to 9.2.8).
 use Rattle.std.specs.Ordering.{int_eq}
-use Rattle.std.specs.Prelude.{ℕ, ◌-◌, ◌^◌, min, Bool, true, false, ◌&&◌, ◌||◌, ℤ, pos, neg_ℤ, ◌+ℤ◌, ◌-ℤ◌, ◌*ℤ◌, int_lt, int_le, int_div, int_rem, unsigned_abs, Result, Ok, Err, if◌then◌else◌}
-use Rattle.std.specs.Int.{int_pow, is_negative}
+use Rattle.std.specs.Prelude.{ℕ, ◌-◌, ◌^◌, min, Bool, ◌&&◌, ◌||◌, ℤ, pos, neg_ℤ, ◌+ℤ◌, ◌-ℤ◌, ◌*ℤ◌, int_lt, int_le, int_div, int_rem, unsigned_abs, Result, Ok, Err, if◌then◌else◌}
+use Rattle.std.specs.Int.{int_pow}
 use Rattle.sim_operators.specs.declared.fault.Fault.{Fault}
 use Rattle.sim_operators.specs.declared.fault.Fault.TheVariants as fault
 use Rattle.sim_elaborated.specs.declared.expressions.Number.{Number}

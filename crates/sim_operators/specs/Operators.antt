@@ -1,6 +1,6 @@
 -- Operators on values (IEEE Std 1076-2008, clause 9.2).
 use Rattle.std.specs.Ordering.{int_eq}
-use Rattle.std.specs.Prelude.{ℕ, ◌&&◌, ◌==◌, Bool, not, List, [], ◌∷◌, ◌++◌, length, map, ℤ, pos, neg_ℤ, int_lt, int_le, unsigned_abs, Option, Some, None, option_map, Result, Ok, Err, if◌then◌else◌}
+use Rattle.std.specs.Prelude.{ℕ, ◌&&◌, ◌==◌, Bool, not, List, [], ◌∷◌, ◌++◌, length, map, ℤ, pos, neg_ℤ, int_lt, int_le, unsigned_abs, Option, None, option_map, Result, Ok, Err, if◌then◌else◌}
 use Rattle.std.specs.List.{zip, list_all}
 use Rattle.vhpi_values.specs.Formats.{first}
 use Rattle.sim_elaborated.specs.declared.expressions.Relation.{Relation}

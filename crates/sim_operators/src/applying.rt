@@ -25,7 +25,8 @@ fn are_equal_so_far(a: &[i64], b: &[i64]) -> bool
     a.iter().zip(b).all(|(x, y)| *x == *y)
 }
 
-fn are_equal(a: &[i64], b: &[i64]) -> bool
+/// Whether two values of one type are equal.
+pub fn are_equal(a: &[i64], b: &[i64]) -> bool
     ensures { result ≡ spec.are_equal a.now b.now }
 {
     a.len() == b.len() && are_equal_so_far(a, b)

@@ -10,7 +10,7 @@ mod logic;
 mod numbers;
 mod scalars;
 
-pub use applying::{apply, apply_unary, decided};
+pub use applying::{apply, apply_unary, are_equal, decided};
 pub use fault::Fault;
 pub use logic::{is_true, truth, x01};
 pub use numbers::calculate;

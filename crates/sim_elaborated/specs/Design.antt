@@ -2,6 +2,7 @@
 use Rattle.std.specs.Prelude.{ℕ, suc, ◌+◌, ◌<◌, ◌≤◌, ◌≡◌, Bool, true, false, ◌&&◌, ◌||◌, nat_lt, nat_le, nat_eq, List, [], ◌∷◌, ◌++◌, map, length, replicate, count_by, sum_by, Option, Some, None, is_none, option_and_then, slice_get, IsTrue, All, IfSome, if◌then◌else◌}
 use Rattle.std.specs.List.{list_all, list_any, flat_map}
 use Rattle.std.specs.Option.{option_map_or}
+use Rattle.vhpi_values.specs.Types.{element_count}
 use Rattle.sim_elaborated.specs.declared.regions.Region.{Region}
 use Rattle.sim_elaborated.specs.declared.regions.DesignUnit.{DesignUnit}
 use Rattle.sim_elaborated.specs.declared.regions.DesignUnit.TheVariants as unit
@@ -196,3 +197,5 @@ pub record IsWithinLimits (d : Design) : Type 0 where
   pub processes : length d.processes ≤ 16384
   pub drivers : length d.drivers ≤ 65536
   pub driver_elements : sum_by (λ s. length s.places) d.drivers ≤ 1048576
+  pub vectors : All (λ ty. element_count ty ≤ 4096) d.types
+  pub objects : sum_by (λ g. length g.value) d.generics + sum_by (λ c. length c.value) d.constants + sum_by (λ v. length v.initial) d.variables ≤ 1048576

@@ -1,2 +1,4 @@
 pub mod Marks
 pub mod Cuts
+pub mod Pairs
+pub mod Keys

@@ -7,3 +7,4 @@ pub mod Sections
 pub mod Moves
 pub mod Determined
 pub mod Worked
+pub mod Falls

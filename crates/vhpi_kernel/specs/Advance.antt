@@ -1,6 +1,6 @@
-use Rattle.std.specs.Prelude.{◌≡◌, ◌<◌, Some, ◌⊎◌}
+use Rattle.std.specs.Prelude.{◌≡◌, Some, ◌⊎◌}
 use Rattle.sim_journal.specs.declared.End.{End}
-use Rattle.vhpi_kernel.specs.Simulation.{Simulation, SectionDone, EndReached, sections_left}
+use Rattle.vhpi_kernel.specs.Simulation.{Simulation, SectionDone, EndReached}
 use Rattle.vhpi_kernel.specs.declared.Step.{Step}
 use Rattle.vhpi_kernel.specs.declared.Step.TheVariants as steps
 
@@ -13,8 +13,3 @@ pub record HasEnded (old new : Simulation) (end : End) : Type 0 where
 abbrev pub Advances : Step → Simulation → Simulation → Type 0
 Advances steps.CycleEnd old new = SectionDone old new
 Advances (steps.Ended end) old new = EndReached old new end ⊎ HasEnded old new end
-
--- a section less is to come
-abbrev pub Falls : Step → Simulation → Simulation → Type 0
-Falls steps.CycleEnd old new = sections_left new < sections_left old
-Falls (steps.Ended end) old new = Unit {0}

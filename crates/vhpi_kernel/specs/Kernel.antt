@@ -4,7 +4,7 @@ use Rattle.sim_design.specs.Design.{IsSound, IsNumbered}
 use Rattle.sim_waves.specs.Waveform.{Waveform}
 use Rattle.sim_journal.specs.declared.Entry.{Entry}
 use Rattle.sim_journal.specs.declared.Entry.TheVariants as entries
-use Rattle.vhpi_kernel.specs.State.{State, table, driving_value, all_ran}
+use Rattle.vhpi_kernel.specs.State.{State}
 use Rattle.vhpi_kernel.specs.Cycle.{Task, initialization}
 use Rattle.vhpi_kernel.specs.Index.{IsIndex}
 
@@ -26,10 +26,6 @@ pub record IsReady (d : Design) (now delta cycle : ℕ) (values : List ℤ) (wav
   pub values_len : length values ≡ length d.nets
   pub deltas : delta ≤ cycle
   pub first : begun ≡ false → now ≡ 0
-
--- the state after the initialization
-abbrev pub initialized : Design → State → State
-initialized d s = record s { values = table (length d.nets) (driving_value d s.waves); waves = all_ran s.now d.processes s.waves }
 
 -- the entry of a cycle that begins
 abbrev pub time_entry : State → Entry

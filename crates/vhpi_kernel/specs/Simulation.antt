@@ -23,6 +23,10 @@ pub record Simulation : Type 0 where
 abbrev pub first_simulation : Design → Plan → Simulation
 first_simulation d plan = record { design = d; plan = plan; state = first_state d; journal = []; tasks = initialization; ended = None; failed = false }
 
+-- the same design is run under the same plan
+abbrev pub IsOfSameRun : Simulation → Simulation → Type 0
+IsOfSameRun old new = (new.design ≡ old.design) × (new.plan ≡ old.plan)
+
 -- the entries that are still to come, with the end
 abbrev pub left_by : Option End → Simulation → List Entry → End → Type 0
 left_by (Some e) w es end = (es ≡ []) × (end ≡ e)

@@ -3,10 +3,10 @@ ghost use Rattle.sim_design.specs.Design.{IsSound, IsNumbered};
 ghost use Rattle.sim_journal.specs.declared.Entry.TheVariants as entries;
 ghost use Rattle.vhpi_kernel.specs.State.{State, Next, Update, events, table, driving_value, all_ran};
 ghost use Rattle.vhpi_kernel.specs.Cycle.{moved_to, initialization};
-ghost use Rattle.vhpi_kernel.specs.Kernel.{initialized, time_entry};
+ghost use Rattle.vhpi_kernel.specs.Kernel.{time_entry};
 ghost use Rattle.vhpi_kernel.specs.Run.{end_at};
-ghost use Rattle.vhpi_kernel.specs.Simulation.{Simulation, first_simulation};
-ghost use Rattle.vhpi_kernel.specs.Advance.{Advances, Falls};
+ghost use Rattle.vhpi_kernel.specs.Simulation.{Simulation, first_simulation, IsOfSameRun};
+ghost use Rattle.vhpi_kernel.specs.Advance.{Advances};
 
 use crate::index::index_drivers;
 use crate::signals::{default_values, first_waves, next_time};
@@ -99,10 +99,11 @@ impl Kernel {
 
     /// Makes the next section of the run: the initialization, or a simulation cycle. Between two of
     /// them it ends the run where an end applies (14.7.5); a run that has ended stays so. After want
-    /// of memory every later call answers the same, and nothing is said of what it has done.
+    /// of memory every later call answers the same, and nothing is said of what it has done. Whatever
+    /// it answers, the design and the plan stay the same.
     pub fn advance(&mut self) -> Result<Step, NoMemory>
         ensures ok { IfOk result (λ s. Advances s self.old self.new) }
-        ensures falls { IfOk result (λ s. Falls s self.old self.new) }
+        ensures kept { IsOfSameRun self.old self.new }
         ensures failed { OnErr result (self.new.failed ≡ true) }
         ensures sticky { self.old.failed ≡ true → IsErr result }
     {
@@ -144,7 +145,8 @@ impl Kernel {
     // its wait.
     fn initialize(&mut self) -> Result<(), NoMemory>
         requires { self.old.tasks ≡ initialization }
-        ensures { OnOk result (self.new ≡ record self.old { state = initialized self.old.design self.old.state; tasks = [] }) }
+        ensures done { OnOk result (self.new ≡ record self.old { state = record self.old.state { values = table (length self.old.design.nets) (driving_value self.old.design self.old.state.waves); waves = all_ran self.old.state.now self.old.design.processes self.old.state.waves }; tasks = [] }) }
+        ensures kept { IsOfSameRun self.old self.new }
     {
         self.values = computed_values(
             self.alloc,
@@ -167,7 +169,8 @@ impl Kernel {
     fn start_cycle(&mut self, next: u64) -> Result<(), NoMemory>
         requires between { self.old.tasks ≡ [] }
         requires cycle { self.old.state.cycle < 2 ^ 32 - 1 }
-        ensures { OnOk result (self.new ≡ record self.old { state = moved_to next self.old.state; journal = self.old.journal ++ time_entry (moved_to next self.old.state) ∷ [] }) }
+        ensures moved { OnOk result (self.new ≡ record self.old { state = moved_to next self.old.state; journal = self.old.journal ++ time_entry (moved_to next self.old.state) ∷ [] }) }
+        ensures kept { IsOfSameRun self.old self.new }
     {
         let Clock { now, delta, cycle } = self.clock;
         let clock = Clock {
@@ -186,7 +189,8 @@ impl Kernel {
 
     // Drivers become active, and nets are updated.
     fn update(&mut self) -> Result<(), NoMemory>
-        ensures { OnOk result (self.new ≡ record self.old { state = Update self.old.design self.old.state; journal = self.old.journal ++ events (length self.old.design.nets) self.old.state.values (Update self.old.design self.old.state).values }) }
+        ensures updated { OnOk result (self.new ≡ record self.old { state = Update self.old.design self.old.state; journal = self.old.journal ++ events (length self.old.design.nets) self.old.state.values (Update self.old.design self.old.state).values }) }
+        ensures kept { IsOfSameRun self.old self.new }
     {
         update_signals(
             self.clock.now,
@@ -209,7 +213,7 @@ impl Kernel {
         requires next { Next self.old.state ≡ Some next }
         requires limit { self.old.state.cycle < self.old.plan.limit }
         ensures ok { IfOk result (λ s. Advances s self.old self.new) }
-        ensures falls { IfOk result (λ s. Falls s self.old self.new) }
+        ensures kept { IsOfSameRun self.old self.new }
     {
         // Read for its range: the cycle's number stays below it.
         let _limit = self.plan.limit;
@@ -224,7 +228,7 @@ impl Kernel {
         requires between { self.old.tasks ≡ [] }
         requires applies { end_at self.old.plan self.old.state ≡ Some end }
         ensures ok { IfOk result (λ s. Advances s self.old self.new) }
-        ensures falls { IfOk result (λ s. Falls s self.old self.new) }
+        ensures kept { IsOfSameRun self.old self.new }
     {
         self.journal.push(Entry::Ended(end))?;
         self.ended = Some(end);
@@ -234,7 +238,7 @@ impl Kernel {
     // What `advance` does, where there was no want of memory before.
     fn step(&mut self) -> Result<Step, NoMemory>
         ensures ok { IfOk result (λ s. Advances s self.old self.new) }
-        ensures falls { IfOk result (λ s. Falls s self.old self.new) }
+        ensures kept { IsOfSameRun self.old self.new }
     {
         if let Some(end) = self.ended {
             return Ok(Step::Ended(end));

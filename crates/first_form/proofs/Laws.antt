@@ -1,15 +1,15 @@
 -- What follows for every tree of the first form.
-use Rattle.std.proofs.Common.{◌≡◌, ℕ, Bool, true, false, cond, ◌&&◌, nat_lt, List, [], ◌∷◌, Option, Some, None, Result, Ok, Err, IfOk, is_some, unwrap_or, length, map, refl, sym, ap, ◌∙◌, subst, arith}
+use Rattle.std.proofs.Common.{◌≡◌, ℕ, Bool, true, false, cond, ◌&&◌, nat_lt, pos, if◌then◌else◌, ◌==◌, List, [], ◌∷◌, Option, Some, None, Result, Ok, Err, IfOk, is_some, unwrap_or, length, map, refl, sym, ap, ◌∙◌, subst, arith}
 use Rattle.std.proofs.lemmas.Bool.{and_parts, and_from, lt-ltb}
 use Rattle.std.proofs.lemmas.Option.{same_Some, none-some, cond_some}
 use Rattle.std.proofs.lemmas.List.{length-map}
 use Rattle.std.specs.List.{list_all}
 use Rattle.vhdl_tree.specs.declared.units.DesignFile.{DesignFile}
-use Rattle.sim_design.specs.declared.Net.{Net}
 use Rattle.sim_design.specs.declared.Design.{Design}
-use Rattle.sim_design.specs.Design.{IsSound, is_process, is_waveform, have_own_targets}
+use Rattle.sim_design.specs.Design.{IsSound, is_bit_position, have_bit_positions, is_net, is_process, is_waveform, have_own_targets}
 use Rattle.first_form.specs.declared.fault.FormError.{FormError}
 use Rattle.first_form.specs.declared.fault.FormError.TheVariants.{NotBuilt, NoMemory}
+use Rattle.first_form.specs.declared.form.Element.{Element}
 use Rattle.first_form.specs.declared.form.Assignment.{Assignment}
 use Rattle.first_form.specs.declared.form.Form.{Form}
 use Rattle.first_form.specs.Form.{is_right, design_of, net_of, process_of, processes_of, number_in, is_assignment, is_wave, is_bit, waveform_of, are_distinct}
@@ -47,16 +47,27 @@ pub is_reading : (text : List ℕ) (tree : DesignFile) (f : Form) (result : Resu
 is_reading text tree f (Ok d) e g = has_design text tree f d e g
 is_reading text tree f (Err fault) e g = no_design text tree f fault e g
 
-nets_fit : (signals : List (List ℕ)) → list_all (λ (n : Net). nat_lt n.instance 1) (map net_of signals) ≡ true
+nets_fit : (signals : List (List ℕ)) → list_all (is_net 1) (map net_of signals) ≡ true
 nets_fit [] = refl
 nets_fit (s ∷ signals) = nets_fit signals
+
+-- each value is `'0'` or `'1'`
+value_fits : (b : Bool) → is_bit_position (if b then pos 1 else pos 0) ≡ true
+value_fits true = refl
+value_fits false = refl
+
+values_fit : (es : List Element) → have_bit_positions (waveform_of es) ≡ true
+values_fit [] = refl
+values_fit (e ∷ es) = rw (value_fits (e.literal == 49), values_fit es) refl
 
 process_fits : (signals : List (List ℕ)) (a : Assignment) → is_assignment signals a ≡ true
     → is_process 1 (length (map net_of signals)) (process_of signals a) ≡ true
 process_fits signals a h =
     let both = and_parts (is_some (number_in signals a.target)) (is_wave a.elements) h in
     let wave = and_parts (list_all is_bit a.elements) (is_waveform (waveform_of a.elements)) both.1 in
-    and_from (nat_lt (unwrap_or (number_in signals a.target) 0) (length (map net_of signals))) (is_waveform (waveform_of a.elements)) (at (number_in signals a.target) refl both.0) wave.1
+    let places = at (number_in signals a.target) refl both.0 in
+    and_from (nat_lt (unwrap_or (number_in signals a.target) 0) (length (map net_of signals)) && is_waveform (waveform_of a.elements)) (have_bit_positions (waveform_of a.elements))
+    (and_from (nat_lt (unwrap_or (number_in signals a.target) 0) (length (map net_of signals))) (is_waveform (waveform_of a.elements)) places wave.1) (values_fit a.elements)
   where
     at : (o : Option ℕ) → number_in signals a.target ≡ o → is_some o ≡ true → nat_lt (unwrap_or o 0) (length (map net_of signals)) ≡ true
     at None e s = cc

@@ -1,5 +1,6 @@
-use Rattle.std.specs.Prelude.{ℕ, ◌-◌, ◌^◌, ◌<◌, List, [], ◌∷◌, ◌++◌, Bool, true, false, ◌&&◌, nat_lt, nat_le, nat_eq, length, IsTrue, codes, slice_get, Some, None, Option, if◌then◌else◌}
+use Rattle.std.specs.Prelude.{ℕ, ℤ, pos, ◌-◌, ◌^◌, ◌<◌, List, [], ◌∷◌, ◌++◌, Bool, true, false, ◌&&◌, ◌||◌, nat_lt, nat_le, nat_eq, length, IsTrue, codes, slice_get, Some, None, Option, if◌then◌else◌}
 use Rattle.std.specs.List.{list_all, list_any}
+use Rattle.std.specs.Ordering.{int_eq}
 use Rattle.sim_design.specs.declared.Instance.{Instance}
 use Rattle.sim_design.specs.declared.Net.{Net}
 use Rattle.sim_design.specs.declared.Process.{Process}
@@ -28,6 +29,18 @@ is_in_time e = nat_le e.delay time_high
 abbrev pub is_waveform : List WaveformElement → Bool
 is_waveform es = is_ascending es && list_all is_in_time es
 
+-- a value of type BIT: the position of `'0'` or that of `'1'`
+abbrev pub is_bit_position : ℤ → Bool
+is_bit_position value = int_eq value (pos 0) || int_eq value (pos 1)
+
+-- each value of a waveform is one of type BIT
+abbrev pub have_bit_positions : List WaveformElement → Bool
+have_bit_positions es = list_all (λ e. is_bit_position e.value) es
+
+-- the net names an instance that is there, and its default is a value of its type
+abbrev pub is_net : ℕ → Net → Bool
+is_net instances n = nat_lt n.instance instances && is_bit_position n.default
+
 -- one of the processes assigns to the net
 abbrev pub is_target : ℕ → List Process → Bool
 is_target net ps = list_any (λ p. nat_eq p.target net) ps
@@ -37,15 +50,21 @@ abbrev pub have_own_targets : List Process → Bool
 have_own_targets [] = true
 have_own_targets (p ∷ ps) = if (is_target p.target ps) then false else have_own_targets ps
 
--- the process names what is there, and assigns a waveform
+-- the process names what is there, and assigns a waveform of values of the target's type
 abbrev pub is_process : ℕ → ℕ → Process → Bool
-is_process instances nets p = nat_lt p.instance instances && nat_lt p.target nets && is_waveform p.waveform
+is_process instances nets p =
+    nat_lt p.instance instances && nat_lt p.target nets && is_waveform p.waveform && have_bit_positions p.waveform
 
--- what holds of every elaborated design: places are in range, waveforms are waveforms, and an
--- unresolved net has at most one source
+-- there is a root, the first instance
+abbrev pub has_root : Design → Bool
+has_root d = nat_lt 0 (length d.instances)
+
+-- what holds of every elaborated design: it has a root, places are in range, waveforms are waveforms,
+-- each value is one of its type, and an unresolved net has at most one source
 abbrev pub is_sound : Design → Bool
 is_sound d =
-    list_all (λ n. nat_lt n.instance (length d.instances)) d.nets
+    has_root d
+    && list_all (is_net (length d.instances)) d.nets
     && list_all (is_process (length d.instances) (length d.nets)) d.processes
     && have_own_targets d.processes
 

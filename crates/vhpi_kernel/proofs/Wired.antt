@@ -5,7 +5,7 @@ use Rattle.std.specs.List.{list_all}
 use Rattle.std.specs.Option.{option_map}
 use Rattle.sim_design.specs.declared.Design.{Design}
 use Rattle.sim_design.specs.declared.Process.{Process}
-use Rattle.sim_design.specs.Design.{is_process, is_waveform, have_own_targets, IsSound}
+use Rattle.sim_design.specs.Design.{has_root, is_net, is_process, is_waveform, have_bit_positions, have_own_targets, IsSound}
 use Rattle.sim_waves.specs.Waveform.{Waveform, is_active, at_time}
 use Rattle.vhpi_kernel.specs.State.{table, driving_value, updated_value, default_at, value_at, events}
 use Rattle.vhpi_kernel.specs.Index.{driver_of, IsWithin, value_by, active_by, indexed_value, updated_value_by, events_by}
@@ -20,13 +20,14 @@ waveforms_of : (instances nets : ℕ) (ps : List Process) → list_all (is_proce
 waveforms_of instances nets [] h = refl
 waveforms_of instances nets (p ∷ ps) h =
     let parts : (is_process instances nets p ≡ true) × (list_all (is_process instances nets) ps ≡ true) = and_parts _ _ h in
-    let waveform : is_waveform p.waveform ≡ true = (and_parts (nat_lt p.instance instances && nat_lt p.target nets) (is_waveform p.waveform) parts.0).1 in
+    let places : (nat_lt p.instance instances && nat_lt p.target nets && is_waveform p.waveform) ≡ true = (and_parts _ (have_bit_positions p.waveform) parts.0).0 in
+    let waveform : is_waveform p.waveform ≡ true = (and_parts (nat_lt p.instance instances && nat_lt p.target nets) (is_waveform p.waveform) places).1 in
     rw (waveform, waveforms_of instances nets ps parts.1) refl
 
 pub waveforms : (d : Design) → IsSound d → list_all (λ p. is_waveform p.waveform) d.processes ≡ true
 waveforms d sound =
     let front : _ ≡ true = (and_parts _ (have_own_targets d.processes) sound).0 in
-    waveforms_of (length d.instances) (length d.nets) d.processes (and_parts (list_all (λ n. nat_lt n.instance (length d.instances)) d.nets) (list_all (is_process (length d.instances) (length d.nets)) d.processes) front).1
+    waveforms_of (length d.instances) (length d.nets) d.processes (and_parts (has_root d && list_all (is_net (length d.instances)) d.nets) (list_all (is_process (length d.instances) (length d.nets)) d.processes) front).1
 
 -- the driver of a net is one of the drivers
 within_suc : (o : Option ℕ) (n : ℕ) → IsWithin o n → IsWithin (option_map suc o) (suc n)

@@ -1,6 +1,6 @@
 pub mod Apart
 pub mod Each
-pub mod Laws
+pub mod Trees
 pub mod Names
 pub mod Targets
 pub mod Waves

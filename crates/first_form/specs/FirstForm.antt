@@ -24,3 +24,7 @@ HasNoDesign NotBuilt text tree = (d : Design) → IsForm text tree d → ⊥
 abbrev pub IsReading : Result Design FormError → List ℕ → DesignFile → Type 0
 IsReading (Ok d) text tree = IsForm text tree d
 IsReading (Err e) text tree = HasNoDesign e text tree
+
+-- a tree stands for one design at most
+abbrev pub OneDesign : Type 0
+OneDesign = (text : List ℕ) (tree : DesignFile) (d e : Design) → IsForm text tree d → IsForm text tree e → d ≡ e

@@ -1,4 +1,4 @@
-ghost use Rattle.std.specs.Prelude.{◌≡◌, IfOk, IsErrOf};
+ghost use Rattle.std.specs.Prelude.{IfOk, IsErrOf};
 ghost use Rattle.sim_design.specs.declared.Design.{Design};
 ghost use Rattle.sim_design.specs.Design.{IsSound, IsNumbered};
 ghost use Rattle.first_form.specs.FirstForm.{IsForm, IsReading};
@@ -14,6 +14,7 @@ fn read(alloc: Global, text: &[u8], tree: &DesignFile) -> Result<Design, FormErr
     ensures read { IsReading result text.now tree.now }
     ensures numbered { IfOk result (λ d. IsNumbered d) }
 {
+    // No `?`: it would convert the fault to itself, of which the proof would need a lemma.
     let form = match form_in(alloc, text, tree) {
         Ok(form) => form,
         Err(fault) => return Err(fault),
@@ -27,9 +28,8 @@ fn read(alloc: Global, text: &[u8], tree: &DesignFile) -> Result<Design, FormErr
 ///
 /// Every other tree is `NotBuilt`. Where the form or the design has no room, it is `NoMemory`.
 pub fn design_of_form(alloc: Global, text: &[u8], tree: &DesignFile) -> Result<Design, FormError>
-    // What is built is of the form, and the tree stands for this design and no other.
+    // What is built is of the form. The tree stands for no other design: the law `one_design`.
     ensures found { IfOk result (λ d. IsForm text.now tree.now d) }
-    ensures only { IfOk result (λ d. (other : Design) → IsForm text.now tree.now other → other ≡ d) }
     // What is refused is not of the form.
     ensures none { IsErrOf result FormError.NotBuilt → (d : Design) → IsForm text.now tree.now d → ⊥ }
     ensures sound { IfOk result (λ d. IsSound d) }

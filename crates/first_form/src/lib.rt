@@ -8,6 +8,7 @@ mod building;
 mod design;
 mod fault;
 mod form;
+pub mod laws;
 mod reading;
 
 pub use design::design_of_form;

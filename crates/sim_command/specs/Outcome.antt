@@ -1,4 +1,5 @@
-use Rattle.std.specs.Prelude.{◌≡◌, ℕ, ◌<◌, ◌≤◌, List, ◌++◌, take, length, Option, Some, None, Result, Ok, Err, ◌⊎◌, codes, decimal}
+use Rattle.std.specs.Prelude.{◌≡◌, ℕ, ◌<◌, ◌≤◌, List, ◌++◌, take, drop, length, Option, Some, None, Result, Ok, Err, ◌⊎◌, codes, decimal}
+use Rattle.std.specs.Option.{option_map, option_and_then}
 use Rattle.sim_design.specs.declared.Design.{Design}
 use Rattle.vhdl_units.specs.Faults.{number_of}
 use Rattle.vhdl_units.specs.declared.fault.Fault.{Fault}
@@ -82,6 +83,7 @@ pub record RunShown (name : List ℕ) (limit : ℕ) (old new : Seen) : Type 0 wh
 pub record FrontShown (name : List ℕ) (limit : ℕ) (old : Seen) (now : Written) : Type 0 where
   pub text : List ℕ
   pub file : TextHas name old (λ t. t ≡ text)
+  pub within : length text ≤ most_bytes
   pub design : Design
   pub read : FirstForm text design
   pub entries : List Entry
@@ -110,6 +112,21 @@ pub record Refuses (f : CommandFault) (name : List ℕ) (old new : Seen) : Type 
   pub written : new.written ≡ old.written
   pub asked : new.asked ≡ also_asked (Start name) old.asked
 
+-- what is left of the file shows that its reading was stopped: no file is begun, or no more bytes were
+-- taken than a design file may have
+abbrev pub IsReadInPart : List ℕ → Seen → Option (List ℕ) → Type 0
+IsReadInPart name old left =
+    (left ≡ None) ⊎ ((k : ℕ) × (k ≤ most_bytes) × (left ≡ option_map (drop k) (option_and_then (bytes_of name) old.files)))
+
+-- a fault came in the reading, and nothing was written; or in the run of a text that can be run
+abbrev pub IsStopped : List ℕ → ℕ → Seen → Written → Option (List ℕ) → Type 0
+IsStopped name limit old now left = ((now ≡ old.written) × IsReadInPart name old left) ⊎ FrontShown name limit old now
+
+pub record Stopped (name : List ℕ) (limit : ℕ) (old new : Seen) : Type 0 where
+  pub shown : IsStopped name limit old new.written new.left
+  pub asked : AsksOnce name old new
+
+-- memory ran out
 pub record Interrupted (name : List ℕ) (limit : ℕ) (old new : Seen) : Type 0 where
   pub shown : IsShown name limit old new.written
   pub asked : AsksOnce name old new
@@ -120,7 +137,7 @@ RunsDesign (Ok done) name limit old new = RunShown name limit old new
 RunsDesign (Err fault.Usage) name limit old new = ⊥
 RunsDesign (Err fault.TooLong) name limit old new = Refuses fault.TooLong name old new
 RunsDesign (Err (fault.Design f)) name limit old new = Refuses (fault.Design f) name old new
-RunsDesign (Err fault.Host) name limit old new = Interrupted name limit old new
+RunsDesign (Err fault.Host) name limit old new = Stopped name limit old new
 RunsDesign (Err fault.NoMemory) name limit old new = Interrupted name limit old new
 
 -- what a command comes to
@@ -143,7 +160,16 @@ CauseOf (Err fault.NoMemory) before now = now ≡ before
 abbrev pub Said : List ℕ → Written → Written → ℕ → ℕ → Type 0
 Said line was now before after =
     ((now ≡ added channel.Err line was) × (after ≡ before))
-    ⊎ ((k : ℕ) × (k < length line) × (now ≡ added channel.Err (take k line) was) × Rose before after)
+    ⊎ ((k : ℕ) × (k < length line) × (now ≡ added channel.Err (take k line) was) × Rose before after × (before ≤ after))
+
+-- memory ran out while the line was written: there is a front of it on Err, and there was no fault
+abbrev pub IsCutShort : List ℕ → Written → Written → ℕ → ℕ → Type 0
+IsCutShort line was now before after =
+    (k : ℕ) × (k < length line) × (now ≡ added channel.Err (take k line) was) × (after ≡ before)
+
+-- the line is on Err as far as it could be written: all of it, or a front where a fault came or memory ran out
+abbrev pub SaidInPart : List ℕ → Written → Written → ℕ → ℕ → Type 0
+SaidInPart line was now before after = Said line was now before after ⊎ IsCutShort line was now before after
 
 -- status 0: the command is done, and nothing is said
 abbrev pub IsDone : Option Command → Seen → Seen → ℕ → ℕ → Type 0
@@ -161,25 +187,41 @@ abbrev pub IsUsage : Option Command → Seen → Seen → ℕ → ℕ → Type 0
 IsUsage None old new before after = Said (line_of fault.Usage) old.written new.written before after × (new.asked ≡ old.asked)
 IsUsage (Some c) old new before after = ⊥
 
--- a front of a line was written to Err; it isn't all of the line of want of memory, where a fault came
-pub record SaidSome (f : CommandFault) (was now : Written) (before after : ℕ) : Type 0 where
-  pub count : ℕ
-  pub within : count ≤ length (line_of f)
-  pub written : now ≡ added channel.Err (take count (line_of f)) was
-  pub later : before ≤ after
-  pub rose : before < after → (count < length (line_of f)) × (f ≡ fault.NoMemory)
+-- memory ran out while the line of a refusal was written
+pub record RefusalCutShort (name : List ℕ) (old new : Seen) (before after : ℕ) : Type 0 where
+  pub cause : CommandFault
+  pub why : IsRefused cause name old
+  pub said : IsCutShort (line_of cause) old.written new.written before after
+  pub asked : new.asked ≡ also_asked (Start name) old.asked
 
--- status 3: memory ran out, in the run or while a line was written
+-- memory ran out in the reading or in the run, and the line says so
+pub record RanOut (name : List ℕ) (limit : ℕ) (old new : Seen) (before after : ℕ) : Type 0 where
+  -- what the channels held when the line was begun
+  pub middle : Written
+  pub shown : IsShown name limit old middle
+  pub said : SaidInPart (line_of fault.NoMemory) middle new.written before after
+  pub asked : AsksOnce name old new
+
+-- status 3: memory ran out, in the command or while the line of usage or of a refusal was written
 abbrev pub IsNoMemory : Option Command → Seen → Seen → ℕ → ℕ → Type 0
-IsNoMemory None old new before after = (f : CommandFault) × SaidSome f old.written new.written before after × (new.asked ≡ old.asked)
-IsNoMemory (Some (Run name limit)) old new before after =
-    (middle : Written) × (f : CommandFault) × IsShown name limit old middle × SaidSome f middle new.written before after × AsksOnce name old new
+IsNoMemory None old new before after = IsCutShort (line_of fault.Usage) old.written new.written before after × (new.asked ≡ old.asked)
+IsNoMemory (Some (Run name limit)) old new before after = RefusalCutShort name old new before after ⊎ RanOut name limit old new before after
 
--- status 4: the host had a fault
+-- the host had a fault, and the line says so: the fault came before the line was begun
+pub record Faulted (name : List ℕ) (limit : ℕ) (old new : Seen) (before after : ℕ) : Type 0 where
+  -- what the channels held, and the count of faults, when the line was begun
+  pub middle : Written
+  pub count : ℕ
+  pub stopped : IsStopped name limit old middle new.left
+  pub later : before ≤ count
+  pub rose : Rose before count
+  pub said : SaidInPart (line_of fault.Host) middle new.written count after
+  pub asked : AsksOnce name old new
+
+-- status 4: the host had a fault, in the reading of the file or in the run
 abbrev pub IsHostFault : Option Command → Seen → Seen → ℕ → ℕ → Type 0
 IsHostFault None old new before after = ⊥
-IsHostFault (Some (Run name limit)) old new before after =
-    (middle : Written) × (k : ℕ) × IsShown name limit old middle × (k ≤ length (line_of fault.Host)) × (new.written ≡ added channel.Err (take k (line_of fault.Host)) middle) × AsksOnce name old new × Rose before after
+IsHostFault (Some (Run name limit)) old new before after = Faulted name limit old new before after
 
 -- each status has its outcome
 abbrev pub Outcome : Status → Option Command → Seen → Seen → ℕ → ℕ → Type 0
@@ -205,6 +247,17 @@ abbrev pub IsRefusedWhereNot : Option Command → Status → Seen → ℕ → �
 IsRefusedWhereNot None result old before after = (result ≡ status.Usage) ⊎ (result ≡ status.NoMemory)
 IsRefusedWhereNot (Some (Run name limit)) result old before after =
     (files : Files) (text : List ℕ) → old.files ≡ Some files → bytes_of name files ≡ Some text → (most_bytes < length text) ⊎ CannotRun text → (Rose before after → ⊥) → (result ≡ status.Refused) ⊎ (result ≡ status.NoMemory)
+
+-- no file is begun; or bytes of the text were taken, and no more than a design file may have, so that of a
+-- text that is too long some are left
+abbrev pub IsTakenInPart : List ℕ → Option (List ℕ) → Type 0
+IsTakenInPart text left = (left ≡ None) ⊎ ((k : ℕ) × (k ≤ most_bytes) × (left ≡ Some (drop k text)))
+
+-- where the file is told and refused, status 4 comes only of a fault in its reading
+abbrev pub YieldsToReading : Option Command → Status → Seen → Seen → Type 0
+YieldsToReading None result old new = Unit {0}
+YieldsToReading (Some (Run name limit)) result old new =
+    (files : Files) (text : List ℕ) → old.files ≡ Some files → bytes_of name files ≡ Some text → (most_bytes < length text) ⊎ CannotRun text → result ≡ status.HostFault → (new.written.out ≡ old.written.out) × IsTakenInPart text new.left
 
 -- a line was said with a status: all of it; a front of it, at a fault; or a front of it, where memory ran out
 abbrev pub Finishes : List ℕ → Status → Status → Seen → Seen → ℕ → ℕ → Type 0

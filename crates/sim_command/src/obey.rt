@@ -1,6 +1,6 @@
 ghost use Rattle.std.specs.Prelude.{◌≡◌, map};
 ghost use Rattle.sim_command.specs.Words.{command};
-ghost use Rattle.sim_command.specs.Outcome.{RunsDesign, Obeys, CauseOf, IsDone, IsRefusal, IsUsage, IsNoMemory, IsHostFault, AsksOnly, IsDoneWhereRun, IsRefusedWhereNot, Finishes, Settles, Outcome};
+ghost use Rattle.sim_command.specs.Outcome.{RunsDesign, Obeys, CauseOf, IsDone, IsRefusal, IsUsage, IsNoMemory, IsHostFault, AsksOnly, IsDoneWhereRun, IsRefusedWhereNot, YieldsToReading, Finishes, Settles, Outcome};
 ghost use Rattle.sim_command.specs.Outcome as outcome;
 
 use crate::fault::{fault_of_read, fault_of_session, refusal_line, without_memory};
@@ -99,7 +99,9 @@ fn obey_and_settle<H: Host>(alloc: Global, words: &[Name], host: &mut H) -> Stat
 /// the program ends with. The words are `run`, the name of a design file, and one to ten digits
 /// whose number is from 1 to 10,000,000: the number of the cycle with which the run ends at the
 /// latest. All others are usage. The journal goes to Out, and one line to Err where the status
-/// isn't 0. What is said of files and channels holds where the host tells them.
+/// isn't 0; a fault, or want of memory, while the line is written leaves a front of it, which may be
+/// empty. Such a fault changes no status. Such want of memory makes the status 3 where the line is
+/// that of usage or of a refusal. What is said of files and channels holds where the host tells them.
 pub fn vhpisim_main<H: Host>(alloc: Global, words: &[Name], host: &mut H) -> Status
     // What each status says.
     ensures done { result ≡ Status.Done → IsDone (command words.now) (H.seen host.old) (H.seen host.new) (H.faults host.old) (H.faults host.new) }
@@ -110,6 +112,8 @@ pub fn vhpisim_main<H: Host>(alloc: Global, words: &[Name], host: &mut H) -> Sta
     // Which status comes, where memory doesn't run out.
     ensures run_is_done { IsDoneWhereRun (command words.now) result (H.seen host.old) (H.faults host.old) (H.faults host.new) }
     ensures refusal_is_said { IsRefusedWhereNot (command words.now) result (H.seen host.old) (H.faults host.old) (H.faults host.new) }
+    // A fault yields to a refusal, unless it came in the reading.
+    ensures refusal_yields { YieldsToReading (command words.now) result (H.seen host.old) (H.seen host.new) }
     // Whatever the status is.
     ensures asked { AsksOnly (command words.now) (H.seen host.old) (H.seen host.new) }
 {

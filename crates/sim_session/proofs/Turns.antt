@@ -7,12 +7,13 @@ use Rattle.sim_journal.specs.Print.{Print, line}
 use Rattle.vhpi_kernel.specs.declared.Plan.{Plan}
 use Rattle.vhpi_kernel.specs.Simulation.{Simulation, first_simulation, left_by, Extends, EndReached}
 use Rattle.vhpi_kernel.proofs.Moves.{extends_same, extends_more, section_extends, end_extends, run_of, part_of}
+use Rattle.vhpi_kernel.proofs.Falls.{section_falls}
 use Rattle.sim_host.specs.Host.{Seen, wrote, WroteFront}
 use Rattle.sim_host.specs.declared.channels.Channel.TheVariants as channel
 use Rattle.sim_host.proofs.Growth.{wrote-wrote, wrote-nothing, front_of}
 use Rattle.vhpi_kernel.specs.declared.Step.{Step}
 use Rattle.vhpi_kernel.specs.declared.Step.TheVariants as steps
-use Rattle.vhpi_kernel.specs.Advance.{Advances, Falls, HasEnded}
+use Rattle.vhpi_kernel.specs.Advance.{Advances, HasEnded}
 use Rattle.sim_session.specs.Turn.{IsAfter, Turned, TurnCut, Turns, AllWritten, PartWritten, RunsFrom}
 use Rattle.sim_session.specs.declared.fault.SessionFault.{SessionFault}
 use Rattle.sim_session.specs.declared.fault.SessionFault.TheVariants as fault
@@ -66,15 +67,15 @@ ended : (old mid : Simulation) (end : End) → EndReached old mid end ⊎ HasEnd
 ended old mid end (inl h) = ended_now old mid end h
 ended old mid end (inr h) = ended_before old mid end h
 
-advanced : (step : Step) (old mid : Simulation) → Advances step old mid → Falls step old mid → Advanced step old mid
-advanced steps.CycleEnd old mid h falls = record {
+advanced : (step : Step) (old mid : Simulation) → Advances step old mid → Advanced step old mid
+advanced steps.CycleEnd old mid h = record {
   added = h.added;
   extends = section_extends old mid h;
   journal = ap (λ (w : Simulation). w.journal) h.after;
   design = ap (λ (w : Simulation). w.design) h.after;
-  after = falls;
+  after = section_falls old mid h;
 }
-advanced (steps.Ended end) old mid h falls = ended old mid end h
+advanced (steps.Ended end) old mid h = ended old mid end h
 
 drained_after : (step : Step) (old mid : Simulation) → IsAfter step old mid → IsAfter step old (record mid { journal = [] })
 drained_after steps.CycleEnd old mid h = h
@@ -98,9 +99,9 @@ drained_extends : (old mid : Simulation) (added : List Entry) → Extends old ad
 drained_extends old mid added h = λ es end left. h es end (left_after mid.ended mid es end left)
 
 -- a section, and its lines
-pub turned : (step : Step) (old mid new : Simulation) (taken : List Entry) (text : List ℕ) (d : Design) (was now : Seen) → Advances step old mid → Falls step old mid → old.journal ≡ [] → taken ≡ mid.journal → new ≡ record mid { journal = [] } → d ≡ new.design → text ≡ Print d taken → now ≡ wrote channel.Out text was → Turned step old new was now
-turned step old mid new taken text d was now h falls empty is drained same printed written =
-    let a : Advanced step old mid = advanced step old mid h falls in
+pub turned : (step : Step) (old mid new : Simulation) (taken : List Entry) (text : List ℕ) (d : Design) (was now : Seen) → Advances step old mid → old.journal ≡ [] → taken ≡ mid.journal → new ≡ record mid { journal = [] } → d ≡ new.design → text ≡ Print d taken → now ≡ wrote channel.Out text was → Turned step old new was now
+turned step old mid new taken text d was now h empty is drained same printed written =
+    let a : Advanced step old mid = advanced step old mid h in
     let whole : new.design ≡ mid.design = ap (λ (w : Simulation). w.design) drained in
     record {
       added = a.added;
@@ -112,9 +113,9 @@ turned step old mid new taken text d was now h falls empty is drained same print
     }
 
 -- a section, and a front of its lines
-pub turn_cut : (step : Step) (old mid new : Simulation) (taken : List Entry) (text : List ℕ) (d : Design) (was now : Seen) → Advances step old mid → Falls step old mid → old.journal ≡ [] → taken ≡ mid.journal → new ≡ record mid { journal = [] } → d ≡ new.design → text ≡ Print d taken → WroteFront channel.Out text was now → TurnCut old was now
-turn_cut step old mid new taken text d was now h falls empty is drained same printed written =
-    let a : Advanced step old mid = advanced step old mid h falls in
+pub turn_cut : (step : Step) (old mid new : Simulation) (taken : List Entry) (text : List ℕ) (d : Design) (was now : Seen) → Advances step old mid → old.journal ≡ [] → taken ≡ mid.journal → new ≡ record mid { journal = [] } → d ≡ new.design → text ≡ Print d taken → WroteFront channel.Out text was now → TurnCut old was now
+turn_cut step old mid new taken text d was now h empty is drained same printed written =
+    let a : Advanced step old mid = advanced step old mid h in
     let whole : new.design ≡ mid.design = ap (λ (w : Simulation). w.design) drained in
     let parts : (front rest : List ℕ) × (text ≡ front ++ rest) × (now ≡ wrote channel.Out front was) = front_of channel.Out text was now written in
     record {
@@ -210,7 +211,7 @@ front_written text limit d was now form p = record { design = d; read = form; en
 pub session_runs : (r : Result End SessionFault) (text : List ℕ) (limit : ℕ) (d : Design) (was now : Seen) → FirstForm text d → RunsFrom r d (record { limit = limit }) was now → Runs r text limit was now
 session_runs (Ok end) text limit d was now form h = record { design = d; read = form; entries = h.entries; run = h.run; written = h.written }
 session_runs (Err (fault.Design f)) text limit d was now form h = absurd h
-session_runs (Err fault.Host) text limit d was now form h = inr (front_written text limit d was now form h)
+session_runs (Err fault.Host) text limit d was now form h = front_written text limit d was now form h
 session_runs (Err fault.NoMemory) text limit d was now form h = inr (front_written text limit d was now form h)
 
 -- a text that isn't read is refused, and nothing is written

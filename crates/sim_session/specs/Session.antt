@@ -34,11 +34,11 @@ pub record FrontWritten (text : List ℕ) (limit : ℕ) (old new : Seen) : Type 
 abbrev pub IsCut : List ℕ → ℕ → Seen → Seen → Type 0
 IsCut text limit old new = (new ≡ old) ⊎ FrontWritten text limit old new
 
--- what a session comes to
+-- what a session comes to; the host has a fault only in the run of a text that can be run
 abbrev pub Runs : Result End SessionFault → List ℕ → ℕ → Seen → Seen → Type 0
 Runs (Ok end) text limit old new = RunWritten text limit end old new
 Runs (Err (fault.Design f)) text limit old new = IsRefusedText text f × (new ≡ old)
-Runs (Err fault.Host) text limit old new = IsCut text limit old new
+Runs (Err fault.Host) text limit old new = FrontWritten text limit old new
 Runs (Err fault.NoMemory) text limit old new = IsCut text limit old new
 
 -- the count of faults never falls; it rose where the answer is Host, and stays at any other

@@ -43,6 +43,7 @@ fn design_of(alloc: Global, text: &[u8], tree: &DesignFile) -> Result<Design, Se
     ensures sound { IfOk result (λ d. IsSound d) }
     ensures numbered { IfOk result (λ d. IsNumbered d) }
 {
+    // No `?`: it would convert the fault to itself, of which the proof would need a lemma.
     match meets_rules(alloc, text, tree) {
         Ok(()) => built(alloc, text, tree),
         Err(fault) => Err(fault),

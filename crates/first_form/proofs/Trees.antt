@@ -90,11 +90,6 @@ design_is_sound f h =
 pub form_sound : (text : List ℕ) (tree : DesignFile) (d : Design) → IsForm text tree d → IsSound d
 form_sound text tree d h = subst IsSound (sym h.design) (design_is_sound h.form h.right)
 
-pub read_only : (text : List ℕ) (tree : DesignFile) (result : Result Design FormError) → IsReading result text tree
-    → IfOk result (λ d. (other : Design) → IsForm text tree other → other ≡ d)
-read_only text tree (Ok d) h = λ other k. form_only text tree other d k h
-read_only text tree (Err e) h = tt
-
 pub read_sound : (text : List ℕ) (tree : DesignFile) (result : Result Design FormError) → IsReading result text tree → IfOk result (λ d. IsSound d)
 read_sound text tree (Ok d) h = form_sound text tree d h
 read_sound text tree (Err e) h = tt

@@ -224,7 +224,7 @@ fn push_assignment(out: &mut Out, assignment: &ResolvedAssignment) {
 
 fn push_jump(out: &mut Out, word: &str, jump: &ResolvedJump) {
     let loops = jump.loops;
-    out.show(word);
+    out.put(word);
     out.put(" ");
     out.show(loops);
     push_optional(out, " if ", &jump.condition)
